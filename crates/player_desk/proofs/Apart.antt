@@ -1,7 +1,7 @@
 -- Where spots are apart: among the variables, in page 0, among the registers, in the slides, or elsewhere.
 use Rattle.std.proofs.Common.{◌≡◌, ◌≢◌, ◌⊎◌, ℕ, ◌+◌, ◌*◌}
 use Rattle.std.proofs.Common.{◌<◌, ◌≤◌, true}
-use Rattle.std.proofs.Common.{inl, inr, refl, sym, arith}
+use Rattle.std.proofs.Common.{inl, inr, refl, sym, ◌∙◌, arith}
 use Rattle.code_runs.specs.Runs.{put}
 use Rattle.code_runs.proofs.Laws.{put_other}
 use Rattle.scopes.specs.Desk.{Layout}
@@ -18,24 +18,23 @@ use Rattle.scopes.specs.declared.line.Half.TheVariants.{Low, High}
 
 -- where a spot is as a number: in the variables, in page 0, among the registers, or elsewhere
 pub record InVariables (layout : Layout) (place label : ℕ) : Type 0 where
-  pub is : place ≡ layout.address 0 + label
-  pub below : label < 113
+  pub is : place ≡ layout.address label
+  pub below : label < VARIABLES
 
-pub own_in : (layout : Layout) (rows : ℕ) → IsRoom layout rows → (label voice : ℕ) → is_own label ≡ true →
-    voice < 3 → InVariables layout (layout.address (label + 7 * voice)) (label + 7 * voice)
-own_in layout rows room label voice h l =
+pub own_in : (layout : Layout) (label voice : ℕ) → is_own label ≡ true → voice < 3 →
+    InVariables layout (layout.address (label + 7 * voice)) (label + 7 * voice)
+own_in layout label voice h l =
     let small = (own_label label voice h l).below in
-    record { is = room.variables (label + 7 * voice) (omega (arith, small)); below = omega (arith, small) }
+    record { is = refl; below = omega (arith, small) }
 
-pub shared_in : (layout : Layout) (rows : ℕ) → IsRoom layout rows → (label : ℕ) → is_shared label ≡ true →
-    InVariables layout (layout.address label) label
-shared_in layout rows room label h =
-    let small = (shared_label label h).below in
-    record { is = room.variables label small; below = small }
+pub shared_in : (layout : Layout) (label : ℕ) → is_shared label ≡ true → InVariables layout (layout.address label) label
+shared_in layout label h = record { is = refl; below = (shared_label label h).below }
 
 -- two bytes of variables at one place have one label
-pub one_label : (layout : Layout) (p q l m : ℕ) → InVariables layout p l → InVariables layout q m → p ≡ q → l ≡ m
-one_label layout p q l m one two e = let a = one.is in let b = two.is in omega (arith, a, b, e)
+pub one_label : (layout : Layout) (rows : ℕ) → IsRoom layout rows → (p q l m : ℕ) → InVariables layout p l →
+    InVariables layout q m → p ≡ q → l ≡ m
+one_label layout rows room p q l m one two e =
+    room.variables.apart l m one.below two.below (sym one.is ∙ e ∙ two.is)
 
 -- a variable isn't the pointer, nor a register, nor elsewhere
 pub variable_apart : (layout : Layout) (rows : ℕ) → IsRoom layout rows → (p l : ℕ) → InVariables layout p l →
@@ -43,18 +42,13 @@ pub variable_apart : (layout : Layout) (rows : ℕ) → IsRoom layout rows → (
     × ((place : ℕ) → IsElsewhere layout rows place → p ≢ place)
 variable_apart layout rows room p l inside =
     let is = inside.is in
-    let below = inside.below in
-    let a = room.begins in
-    let b = room.ends in
+    let a = room.variables.from l inside.below in
+    let b = room.variables.to l inside.below in
     let c = room.pointer_high in (
       λ e. omega (arith, is, a, c, e),
       λ e. omega (arith, is, a, c, e),
-      λ register e. omega (arith, is, b, below, e),
-      λ place away e.
-          elim away.variables [
-            | inl low ↦ let f = low in omega (arith, is, e, f)
-            | inr high ↦ let f = high in omega (arith, is, e, f, below)
-          ],
+      λ register e. omega (arith, is, b, e),
+      λ place away e. away.variables l inside.below (sym e ∙ is),
     )
 
 pub elsewhere_not_sid : (layout : Layout) (rows place register : ℕ) → IsElsewhere layout rows place → register ≤ 24 →
@@ -71,7 +65,7 @@ elsewhere_not_sid layout rows place register away l e =
 pub record IsSlide (layout : Layout) (rows place : ℕ) : Type 0 where
   pub from : 0x0800 ≤ place
   pub to : place < 0xD000
-  pub outside : (place < layout.address 0) ⊎ (layout.address 0 + VARIABLES ≤ place)
+  pub outside : (label : ℕ) → label < VARIABLES → place ≢ layout.address label
   pub elsewhere : (other : ℕ) → IsElsewhere layout rows other → place ≢ other
 
 -- a byte of either list is one
@@ -84,10 +78,11 @@ slide_of layout rows row label list few aside =
     let b = list.to in record {
       from = omega (arith, a);
       to = omega (arith, b, few);
-      outside = elim list.outside [
-        | inl before ↦ inl (omega (arith, before, few))
-        | inr behind ↦ inr (omega (arith, behind))
-      ];
+      outside = λ variable less e.
+          elim (list.outside variable less) [
+            | inl before ↦ omega (arith, before, e)
+            | inr behind ↦ omega (arith, behind, few, e)
+          ];
       elsewhere = λ other away e.
           elim (aside other away) [
             | inl before ↦ omega (arith, before, e)
@@ -104,13 +99,7 @@ slide_is High layout rows row room is =
     slide_of layout rows row SLIDES_HIGH (room.slides is.0).high is.1 (λ other away. away.slides_high is.0)
 
 slide_not_variable : (layout : Layout) (rows p q l : ℕ) → IsSlide layout rows p → InVariables layout q l → q ≢ p
-slide_not_variable layout rows p q l slide inside e =
-    let is = inside.is in
-    let small = inside.below in
-    elim slide.outside [
-      | inl before ↦ omega (arith, before, is, e)
-      | inr behind ↦ omega (arith, behind, is, small, e)
-    ]
+slide_not_variable layout rows p q l slide inside e = slide.outside l inside.below (sym e ∙ inside.is)
 
 pub low_not_high : (layout : Layout) (rows i k : ℕ) → IsRoom layout rows → layout.holds NOTE_DEPENDENT ≡ true →
     i < rows → k < rows → layout.address SLIDES_LOW + i ≢ layout.address SLIDES_HIGH + k
@@ -129,9 +118,9 @@ IsNoSlide spot = Unit {0}
 pub not_at_slide : (r : Reader) → IsRoom r.layout r.rows → r.voice < 3 → (s : Spot) → IsSpot r s → IsNoSlide s →
     (place : ℕ) → IsSlide r.layout r.rows place → spot_place r s ≢ place
 not_at_slide r room v (Own l) is none place slide =
-    slide_not_variable r.layout r.rows place _ _ slide (own_in r.layout r.rows room l r.voice is v)
+    slide_not_variable r.layout r.rows place _ _ slide (own_in r.layout l r.voice is v)
 not_at_slide r room v (Shared l) is none place slide =
-    slide_not_variable r.layout r.rows place _ _ slide (shared_in r.layout r.rows room l is)
+    slide_not_variable r.layout r.rows place _ _ slide (shared_in r.layout l is)
 not_at_slide r room v LowSpot is none place slide =
     let from = slide.from in let c = room.pointer_high in λ e. omega (arith, from, c, e)
 not_at_slide r room v HighSpot is none place slide =
@@ -139,9 +128,9 @@ not_at_slide r room v HighSpot is none place slide =
 not_at_slide r room v (Sid register) is none place slide = let to = slide.to in λ e. omega (arith, to, e)
 not_at_slide r room v (Slide half row) is none place slide = elim none [ ]
 not_at_slide r room v (Tempo its) is none place slide =
-    slide_not_variable r.layout r.rows place _ _ slide (own_in r.layout r.rows room TEMPO its refl is.0)
+    slide_not_variable r.layout r.rows place _ _ slide (own_in r.layout TEMPO its refl is.0)
 not_at_slide r room v (Others l its) is none place slide =
-    slide_not_variable r.layout r.rows place _ _ slide (own_in r.layout r.rows room l its is.0 is.1)
+    slide_not_variable r.layout r.rows place _ _ slide (own_in r.layout l its is.0 is.1)
 not_at_slide r room v (Elsewhere other) is none place slide = λ e. slide.elsewhere other is (sym e)
 
 -- so a byte written there leaves the slides, and a slide that is written leaves it

@@ -280,7 +280,7 @@ came layout rows voice desk Q run after room is shows holds = record {
   shows = shows;
   holds = holds;
   stays = λ place same.
-      let p = spot_at (reader_of layout rows voice desk) room place in
+      let p = spot_at (reader_of layout rows voice desk) place in
       ap run.desk.at p.at
       ∙ (shows.memory p.spot p.is
       ∙ (same_byte (reader_of layout rows voice desk) (voice_desk layout voice desk) after place same p.spot p.at

@@ -1,5 +1,5 @@
 -- Each place of memory stands on the desk as the code of a voice sees it, or is another voice's byte, or elsewhere.
-use Rattle.std.proofs.Common.{◌≡◌, ◌≢◌, ◌⊎◌, ℕ, ◌+◌, ◌-◌, ◌*◌, ◌/◌, ◌%◌}
+use Rattle.std.proofs.Common.{◌≡◌, ◌≢◌, ◌⊎◌, ℕ, zero, suc, ◌+◌, ◌-◌, ◌*◌, ◌/◌, ◌%◌}
 use Rattle.std.proofs.Common.{◌<◌, ◌≤◌, ◌&&◌, ◌||◌, Bool, true, false}
 use Rattle.std.proofs.Common.{nat_eq, inl, inr, refl, sym, ap, ◌∙◌, arith}
 use Rattle.std.proofs.lemmas.Bool.{and_parts, or_cases, agree_below_at, eqb-true, both_ways}
@@ -7,7 +7,7 @@ use Rattle.std.proofs.lemmas.Bool.Decides.{leb_tells, eqb_tells}
 use Rattle.player_memory.specs.declared.labels.TheConstants.{TEMPO, VARIABLES, SLIDES_LOW, SLIDES_HIGH}
 use Rattle.player_memory.specs.declared.conditions.TheConstants.{NOTE_DEPENDENT}
 use Rattle.player_memory.specs.Labels.{is_own, is_shared}
-use Rattle.player_memory.specs.Rooms.{IsRoom}
+use Rattle.scopes.specs.Desk.{Layout}
 use Rattle.scopes.specs.declared.line.Half.TheVariants.{Low, High}
 use Rattle.player_desk.proofs.VoiceDesks.{VoiceDesk, Reader}
 use Rattle.player_desk.proofs.Spots.{Spot, Own, Shared, LowSpot, HighSpot, Sid, Slide, Tempo, Others}
@@ -86,9 +86,30 @@ among place from count =
       | inr before ↦ Out (inl before.1)
     ]
 
+-- and it is that of one of the first labels, or of none
+data AmongVariables (layout : Layout) (place count : ℕ) : Type 0 where
+  At : (label : ℕ) → label < count → place ≡ layout.address label → AmongVariables layout place count
+  Apart : ((label : ℕ) → label < count → place ≢ layout.address label) → AmongVariables layout place count
+
+among_variables : (layout : Layout) (place count : ℕ) → AmongVariables layout place count
+among_variables layout place zero = Apart (λ label few e. omega (arith, few))
+among_variables layout place (suc count) =
+    elim (eqb_tells place (layout.address count)) [
+      | inl last ↦ At count (omega arith) last.1
+      | inr other ↦
+          elim (among_variables layout place count) [
+            | At label few at ↦ At label (omega (arith, few)) at
+            | Apart others ↦ Apart (λ label few.
+                elim (eqb_tells label count) [
+                  | inl is ↦ (λ e. other.1 (e ∙ ap layout.address is.1))
+                  | inr less ↦ (let not = less.1 in others label (omega (arith, few, not)))
+                ])
+          ]
+    ]
+
 -- a place that is none of the others is a slide or elsewhere
 slide_spot : (r : Reader) (place : ℕ) → place ≢ r.layout.pointer → place ≢ r.layout.pointer + 1 →
-    (place < 0xD400) ⊎ (0xD419 ≤ place) → (place < r.layout.address 0) ⊎ (r.layout.address 0 + VARIABLES ≤ place) →
+    (place < 0xD400) ⊎ (0xD419 ≤ place) → ((label : ℕ) → label < VARIABLES → place ≢ r.layout.address label) →
     AtSpot r place
 slide_spot r place low high registers variables = by_condition (r.layout.holds NOTE_DEPENDENT) refl
   where
@@ -126,8 +147,8 @@ slide_spot r place low high registers variables = by_condition (r.layout.holds N
               ]
         ]
 
-pub spot_at : (r : Reader) → IsRoom r.layout r.rows → (place : ℕ) → AtSpot r place
-spot_at r room place =
+pub spot_at : (r : Reader) (place : ℕ) → AtSpot r place
+spot_at r place =
     elim (eqb_tells place r.layout.pointer) [
       | inl low ↦ record { spot = LowSpot; is = record {}; at = low.1 }
       | inr not_low ↦
@@ -137,9 +158,9 @@ spot_at r room place =
                 elim (among place 0xD400 25) [
                   | In register few at ↦ record { spot = Sid register; is = omega (arith, few); at = at }
                   | Out registers ↦
-                      elim (among place (r.layout.address 0) VARIABLES) [
-                        | In label few at ↦ variable_at label few (at ∙ sym (room.variables label few))
-                        | Out variables ↦ slide_spot r place not_low.1 not_high.1 registers variables
+                      elim (among_variables r.layout place VARIABLES) [
+                        | At label few at ↦ variable_at label few at
+                        | Apart variables ↦ slide_spot r place not_low.1 not_high.1 registers variables
                       ]
                 ]
           ]

@@ -34,93 +34,93 @@ pub put_at : (r : Reader) → IsRoom r.layout r.rows → r.voice < 3 → (w s : 
 put_at r room v (Own l) (Own m) written ws ss at byte d e =
     by_label at d.own (λ label. r.layout.address (label + 7 * r.voice)) l m byte
     (λ q. (same_own m l r.voice r.voice ss ws v v
-    (one_label r.layout _ _ _ _ (own_in r.layout r.rows room m r.voice ss v)
-    (own_in r.layout r.rows room l r.voice ws v) q)).1) e
+    (one_label r.layout r.rows room _ _ _ _ (own_in r.layout m r.voice ss v)
+    (own_in r.layout l r.voice ws v) q)).1) e
 put_at r room v (Own l) (Shared m) written ws ss at byte d e =
     put_other at _ byte _ (λ q. not_shared l m r.voice ws ss v
-    (one_label r.layout _ _ _ _ (own_in r.layout r.rows room l r.voice ws v) (shared_in r.layout r.rows room m ss)
+    (one_label r.layout r.rows room _ _ _ _ (own_in r.layout l r.voice ws v) (shared_in r.layout m ss)
     (sym q))) ∙ e
 put_at r room v (Own l) LowSpot written ws ss at byte d e =
-    let apart = variable_apart r.layout r.rows room _ _ (own_in r.layout r.rows room l r.voice ws v) in
+    let apart = variable_apart r.layout r.rows room _ _ (own_in r.layout l r.voice ws v) in
     put_other at _ byte _ (λ q. apart.0 (sym q)) ∙ e
 put_at r room v (Own l) HighSpot written ws ss at byte d e =
-    let apart = variable_apart r.layout r.rows room _ _ (own_in r.layout r.rows room l r.voice ws v) in
+    let apart = variable_apart r.layout r.rows room _ _ (own_in r.layout l r.voice ws v) in
     put_other at _ byte _ (λ q. apart.1 (sym q)) ∙ e
 put_at r room v (Own l) (Sid register) written ws ss at byte d e =
-    let apart = variable_apart r.layout r.rows room _ _ (own_in r.layout r.rows room l r.voice ws v) in
+    let apart = variable_apart r.layout r.rows room _ _ (own_in r.layout l r.voice ws v) in
     put_other at _ byte _ (λ q. apart.2 register (sym q)) ∙ e
 put_at r room v (Own l) (Tempo m) written ws ss at byte d e =
     put_other at _ byte _ (λ q. ss.1 (same_own TEMPO l m r.voice refl ws ss.0 v
-    (one_label r.layout _ _ _ _ (own_in r.layout r.rows room TEMPO m refl ss.0)
-    (own_in r.layout r.rows room l r.voice ws v) q)).0) ∙ e
+    (one_label r.layout r.rows room _ _ _ _ (own_in r.layout TEMPO m refl ss.0)
+    (own_in r.layout l r.voice ws v) q)).0) ∙ e
 put_at r room v (Own l) (Others m its) written ws ss at byte d e =
     put_other at _ byte _ (λ q. ss.2 (same_own m l its r.voice ss.0 ws ss.1 v
-    (one_label r.layout _ _ _ _ (own_in r.layout r.rows room m its ss.0 ss.1)
-    (own_in r.layout r.rows room l r.voice ws v) q)).0) ∙ e
+    (one_label r.layout r.rows room _ _ _ _ (own_in r.layout m its ss.0 ss.1)
+    (own_in r.layout l r.voice ws v) q)).0) ∙ e
 put_at r room v (Own l) (Elsewhere place) written ws ss at byte d e =
-    let apart = variable_apart r.layout r.rows room _ _ (own_in r.layout r.rows room l r.voice ws v) in
+    let apart = variable_apart r.layout r.rows room _ _ (own_in r.layout l r.voice ws v) in
     put_other at _ byte _ (λ q. apart.3 place ss (sym q)) ∙ e
 put_at r room v (Shared l) (Own m) written ws ss at byte d e =
     put_other at _ byte _ (λ q. not_shared m l r.voice ss ws v
-    (one_label r.layout _ _ _ _ (own_in r.layout r.rows room m r.voice ss v) (shared_in r.layout r.rows room l ws) q))
+    (one_label r.layout r.rows room _ _ _ _ (own_in r.layout m r.voice ss v) (shared_in r.layout l ws) q))
     ∙ e
 put_at r room v (Shared l) (Shared m) written ws ss at byte d e =
     by_label at d.shared r.layout.address l m byte
-    (λ q. one_label r.layout _ _ _ _ (shared_in r.layout r.rows room m ss) (shared_in r.layout r.rows room l ws) q) e
+    (λ q. one_label r.layout r.rows room _ _ _ _ (shared_in r.layout m ss) (shared_in r.layout l ws) q) e
 put_at r room v (Shared l) LowSpot written ws ss at byte d e =
-    let apart = variable_apart r.layout r.rows room _ _ (shared_in r.layout r.rows room l ws) in
+    let apart = variable_apart r.layout r.rows room _ _ (shared_in r.layout l ws) in
     put_other at _ byte _ (λ q. apart.0 (sym q)) ∙ e
 put_at r room v (Shared l) HighSpot written ws ss at byte d e =
-    let apart = variable_apart r.layout r.rows room _ _ (shared_in r.layout r.rows room l ws) in
+    let apart = variable_apart r.layout r.rows room _ _ (shared_in r.layout l ws) in
     put_other at _ byte _ (λ q. apart.1 (sym q)) ∙ e
 put_at r room v (Shared l) (Sid register) written ws ss at byte d e =
-    let apart = variable_apart r.layout r.rows room _ _ (shared_in r.layout r.rows room l ws) in
+    let apart = variable_apart r.layout r.rows room _ _ (shared_in r.layout l ws) in
     put_other at _ byte _ (λ q. apart.2 register (sym q)) ∙ e
 put_at r room v (Shared l) (Tempo m) written ws ss at byte d e =
     put_other at _ byte _ (λ q. not_shared TEMPO l m refl ws ss.0
-    (one_label r.layout _ _ _ _ (own_in r.layout r.rows room TEMPO m refl ss.0) (shared_in r.layout r.rows room l ws)
+    (one_label r.layout r.rows room _ _ _ _ (own_in r.layout TEMPO m refl ss.0) (shared_in r.layout l ws)
     q))
     ∙ e ∙ sym (put_other d.shared l byte (TEMPO + 7 * m) (not_shared TEMPO l m refl ws ss.0))
 put_at r room v (Shared l) (Others m its) written ws ss at byte d e =
     put_other at _ byte _ (λ q. not_shared m l its ss.0 ws ss.1
-    (one_label r.layout _ _ _ _ (own_in r.layout r.rows room m its ss.0 ss.1) (shared_in r.layout r.rows room l ws)
+    (one_label r.layout r.rows room _ _ _ _ (own_in r.layout m its ss.0 ss.1) (shared_in r.layout l ws)
     q)) ∙ e
 put_at r room v (Shared l) (Elsewhere place) written ws ss at byte d e =
-    let apart = variable_apart r.layout r.rows room _ _ (shared_in r.layout r.rows room l ws) in
+    let apart = variable_apart r.layout r.rows room _ _ (shared_in r.layout l ws) in
     put_other at _ byte _ (λ q. apart.3 place ss (sym q)) ∙ e
 put_at r room v LowSpot (Own m) written ws ss at byte d e =
-    put_other at _ byte _ (variable_apart r.layout r.rows room _ _ (own_in r.layout r.rows room m r.voice ss v)).0 ∙ e
+    put_other at _ byte _ (variable_apart r.layout r.rows room _ _ (own_in r.layout m r.voice ss v)).0 ∙ e
 put_at r room v LowSpot (Shared m) written ws ss at byte d e =
-    put_other at _ byte _ (variable_apart r.layout r.rows room _ _ (shared_in r.layout r.rows room m ss)).0 ∙ e
+    put_other at _ byte _ (variable_apart r.layout r.rows room _ _ (shared_in r.layout m ss)).0 ∙ e
 put_at r room v LowSpot LowSpot written ws ss at byte d e = put_same at r.layout.pointer byte
 put_at r room v LowSpot HighSpot written ws ss at byte d e = put_other at _ byte _ (λ q. omega (arith, q)) ∙ e
 put_at r room v LowSpot (Sid register) written ws ss at byte d e =
     let most = room.pointer_high in put_other at _ byte _ (λ q. omega (arith, q, most)) ∙ e
 put_at r room v LowSpot (Tempo m) written ws ss at byte d e =
-    put_other at _ byte _ (variable_apart r.layout r.rows room _ _ (own_in r.layout r.rows room TEMPO m refl ss.0)).0
+    put_other at _ byte _ (variable_apart r.layout r.rows room _ _ (own_in r.layout TEMPO m refl ss.0)).0
     ∙ e
 put_at r room v LowSpot (Others m its) written ws ss at byte d e =
-    put_other at _ byte _ (variable_apart r.layout r.rows room _ _ (own_in r.layout r.rows room m its ss.0 ss.1)).0 ∙ e
+    put_other at _ byte _ (variable_apart r.layout r.rows room _ _ (own_in r.layout m its ss.0 ss.1)).0 ∙ e
 put_at r room v LowSpot (Elsewhere place) written ws ss at byte d e = put_other at _ byte _ ss.low ∙ e
 put_at r room v HighSpot (Own m) written ws ss at byte d e =
-    put_other at _ byte _ (variable_apart r.layout r.rows room _ _ (own_in r.layout r.rows room m r.voice ss v)).1 ∙ e
+    put_other at _ byte _ (variable_apart r.layout r.rows room _ _ (own_in r.layout m r.voice ss v)).1 ∙ e
 put_at r room v HighSpot (Shared m) written ws ss at byte d e =
-    put_other at _ byte _ (variable_apart r.layout r.rows room _ _ (shared_in r.layout r.rows room m ss)).1 ∙ e
+    put_other at _ byte _ (variable_apart r.layout r.rows room _ _ (shared_in r.layout m ss)).1 ∙ e
 put_at r room v HighSpot LowSpot written ws ss at byte d e = put_other at _ byte _ (λ q. omega (arith, q)) ∙ e
 put_at r room v HighSpot HighSpot written ws ss at byte d e = put_same at (r.layout.pointer + 1) byte
 put_at r room v HighSpot (Sid register) written ws ss at byte d e =
     let most = room.pointer_high in put_other at _ byte _ (λ q. omega (arith, q, most)) ∙ e
 put_at r room v HighSpot (Tempo m) written ws ss at byte d e =
-    put_other at _ byte _ (variable_apart r.layout r.rows room _ _ (own_in r.layout r.rows room TEMPO m refl ss.0)).1
+    put_other at _ byte _ (variable_apart r.layout r.rows room _ _ (own_in r.layout TEMPO m refl ss.0)).1
     ∙ e
 put_at r room v HighSpot (Others m its) written ws ss at byte d e =
-    put_other at _ byte _ (variable_apart r.layout r.rows room _ _ (own_in r.layout r.rows room m its ss.0 ss.1)).1 ∙ e
+    put_other at _ byte _ (variable_apart r.layout r.rows room _ _ (own_in r.layout m its ss.0 ss.1)).1 ∙ e
 put_at r room v HighSpot (Elsewhere place) written ws ss at byte d e = put_other at _ byte _ ss.high ∙ e
 put_at r room v (Sid register) (Own m) written ws ss at byte d e =
-    put_other at _ byte _ ((variable_apart r.layout r.rows room _ _ (own_in r.layout r.rows room m r.voice ss v)).2
+    put_other at _ byte _ ((variable_apart r.layout r.rows room _ _ (own_in r.layout m r.voice ss v)).2
     register) ∙ e
 put_at r room v (Sid register) (Shared m) written ws ss at byte d e =
-    put_other at _ byte _ ((variable_apart r.layout r.rows room _ _ (shared_in r.layout r.rows room m ss)).2 register)
+    put_other at _ byte _ ((variable_apart r.layout r.rows room _ _ (shared_in r.layout m ss)).2 register)
     ∙ e
 put_at r room v (Sid register) LowSpot written ws ss at byte d e =
     let most = room.pointer_high in put_other at _ byte _ (λ q. omega (arith, q, most)) ∙ e
@@ -129,42 +129,42 @@ put_at r room v (Sid register) HighSpot written ws ss at byte d e =
 put_at r room v (Sid register) (Sid other) written ws ss at byte d e =
     by_label at d.sid (λ n. 0xD400 + n) register other byte (λ q. omega (arith, q)) e
 put_at r room v (Sid register) (Tempo m) written ws ss at byte d e =
-    put_other at _ byte _ ((variable_apart r.layout r.rows room _ _ (own_in r.layout r.rows room TEMPO m refl ss.0)).2
+    put_other at _ byte _ ((variable_apart r.layout r.rows room _ _ (own_in r.layout TEMPO m refl ss.0)).2
     register) ∙ e
 put_at r room v (Sid register) (Others m its) written ws ss at byte d e =
-    put_other at _ byte _ ((variable_apart r.layout r.rows room _ _ (own_in r.layout r.rows room m its ss.0 ss.1)).2
+    put_other at _ byte _ ((variable_apart r.layout r.rows room _ _ (own_in r.layout m its ss.0 ss.1)).2
     register) ∙ e
 put_at r room v (Sid register) (Elsewhere place) written ws ss at byte d e =
     put_other at _ byte _ (λ q. elsewhere_not_sid r.layout r.rows place register ss ws (sym q)) ∙ e
 put_at r room v (Tempo l) (Own m) written ws ss at byte d e =
     put_other at _ byte _ (λ q. ws.1 (sym (same_own m TEMPO r.voice l ss refl v ws.0
-    (one_label r.layout _ _ _ _ (own_in r.layout r.rows room m r.voice ss v)
-    (own_in r.layout r.rows room TEMPO l refl ws.0) q)).0)) ∙ e
+    (one_label r.layout r.rows room _ _ _ _ (own_in r.layout m r.voice ss v)
+    (own_in r.layout TEMPO l refl ws.0) q)).0)) ∙ e
 put_at r room v (Tempo l) (Shared m) written ws ss at byte d e =
     put_other at _ byte _ (λ q. not_shared TEMPO m l refl ss ws.0
-    (one_label r.layout _ _ _ _ (own_in r.layout r.rows room TEMPO l refl ws.0) (shared_in r.layout r.rows room m ss)
+    (one_label r.layout r.rows room _ _ _ _ (own_in r.layout TEMPO l refl ws.0) (shared_in r.layout m ss)
     (sym q)))
     ∙ e ∙ sym (put_other d.shared (TEMPO + 7 * l) byte m (λ q. not_shared TEMPO m l refl ss ws.0 (sym q)))
 put_at r room v (Tempo l) LowSpot written ws ss at byte d e =
-    let apart = variable_apart r.layout r.rows room _ _ (own_in r.layout r.rows room TEMPO l refl ws.0) in
+    let apart = variable_apart r.layout r.rows room _ _ (own_in r.layout TEMPO l refl ws.0) in
     put_other at _ byte _ (λ q. apart.0 (sym q)) ∙ e
 put_at r room v (Tempo l) HighSpot written ws ss at byte d e =
-    let apart = variable_apart r.layout r.rows room _ _ (own_in r.layout r.rows room TEMPO l refl ws.0) in
+    let apart = variable_apart r.layout r.rows room _ _ (own_in r.layout TEMPO l refl ws.0) in
     put_other at _ byte _ (λ q. apart.1 (sym q)) ∙ e
 put_at r room v (Tempo l) (Sid register) written ws ss at byte d e =
-    let apart = variable_apart r.layout r.rows room _ _ (own_in r.layout r.rows room TEMPO l refl ws.0) in
+    let apart = variable_apart r.layout r.rows room _ _ (own_in r.layout TEMPO l refl ws.0) in
     put_other at _ byte _ (λ q. apart.2 register (sym q)) ∙ e
 put_at r room v (Tempo l) (Tempo m) written ws ss at byte d e =
     by_label at d.shared r.layout.address (TEMPO + 7 * l) (TEMPO + 7 * m) byte
-    (λ q. one_label r.layout _ _ _ _ (own_in r.layout r.rows room TEMPO m refl ss.0)
-    (own_in r.layout r.rows room TEMPO l refl ws.0) q)
+    (λ q. one_label r.layout r.rows room _ _ _ _ (own_in r.layout TEMPO m refl ss.0)
+    (own_in r.layout TEMPO l refl ws.0) q)
     e
 put_at r room v (Tempo l) (Others m its) written ws ss at byte d e =
     put_other at _ byte _ (λ q. ss.3 (same_own m TEMPO its l ss.0 refl ss.1 ws.0
-    (one_label r.layout _ _ _ _ (own_in r.layout r.rows room m its ss.0 ss.1)
-    (own_in r.layout r.rows room TEMPO l refl ws.0) q)).1) ∙ e
+    (one_label r.layout r.rows room _ _ _ _ (own_in r.layout m its ss.0 ss.1)
+    (own_in r.layout TEMPO l refl ws.0) q)).1) ∙ e
 put_at r room v (Tempo l) (Elsewhere place) written ws ss at byte d e =
-    let apart = variable_apart r.layout r.rows room _ _ (own_in r.layout r.rows room TEMPO l refl ws.0) in
+    let apart = variable_apart r.layout r.rows room _ _ (own_in r.layout TEMPO l refl ws.0) in
     put_other at _ byte _ (λ q. apart.3 place ss (sym q)) ∙ e
 put_at r room v (Own l) (Slide half i) written ws ss at byte d e =
     leaves_slide r room v (Own l) ws tt _ (slide_is half r.layout r.rows i room ss) at byte ∙ e

@@ -15,7 +15,7 @@ use Rattle.player_desk.proofs.VoiceDesks.{VoiceDesk, Reader, with_cpu, Fits, poi
 use Rattle.player_desk.proofs.VoiceDesks.{EntryLeads, Listed, OfAll, LowSlide, HighSlide, SeenLeads}
 use Rattle.player_memory.specs.Rooms.{IsRoom, IsElsewhere, MayUse}
 use Rattle.player_desk.proofs.Effects.{cpu_with, AgreeOn}
-use Rattle.player_desk.proofs.Owners.{own_below, shared_below}
+use Rattle.player_desk.proofs.Owners.{own_label, own_below, shared_below}
 use Rattle.player_desk.proofs.Spots.{Spot, spot_place, IsSpot, spot_byte, Own as OwnSpot, Shared, LowSpot, HighSpot}
 use Rattle.player_desk.proofs.Spots.{Sid, Slide, Tempo, Others, Elsewhere}
 
@@ -100,13 +100,10 @@ fit_both false k Q never = elim never [ ]
 pub own_place : (r : Reader) → Ground r → (label x : ℕ) → is_own label ≡ true → x ≡ 7 * r.voice →
     (r.layout.address label + x) % 65536 ≡ r.layout.address (label + 7 * r.voice)
 own_place r ground label x own e =
-    let room = ground.room in
-    let few = ground.voice in
-    let small : label < 90 = ltb-true label 90 (and_parts (nat_lt label 90) (nat_lt (label % 21) 7) own).0 in
-    let a = room.variables label (omega (arith, small)) in
-    let b = room.variables (label + 7 * r.voice) (omega (arith, small, few)) in
-    let ends = room.ends in
-    rw (e, a, b) (omega (arith, small, few, ends))
+    let small = (own_label label r.voice own ground.voice).below in
+    let at = ground.room.variables.voices label r.voice own ground.voice in
+    let ends = ground.room.variables.to (label + 7 * r.voice) (omega (arith, small)) in
+    rw (e, at) (omega (arith, at, ends))
 
 -- a byte that is read, as the code sees it
 pub record Seen (layout : Layout) (operand : Operand) (desk : Desk) (Q : ℕ → Type 0) : Type 0 where

@@ -8,7 +8,9 @@ pub use Rattle.player_memory.proofs.Standing.{playing_in}
 pub use Rattle.player_memory.proofs.Standing.{have_same, are_same}
 -- variables that begin as a subtune does hold each voice at the start
 pub use Rattle.player_memory.proofs.Starting.{beginnings_play}
+-- variables that stand one behind the other are apart
+pub use Rattle.player_memory.proofs.Pieces.{InOnePiece, in_one_piece, off_piece, list_behind}
 -- a layout like the one that is worked has a room, and places outside of it
-pub use Rattle.player_memory.proofs.WorkedRooms.{IsLaid, IsOpen, room_in, uses_in, behind_slides}
+pub use Rattle.player_memory.proofs.WorkedRooms.{IsLaid, IsOpen, AreLaid, off_variables, room_in, uses_in, behind_slides}
 -- the entries of a pattern that is worked
 pub use Rattle.player_memory.proofs.WorkedFetching.{note_is, each_is}

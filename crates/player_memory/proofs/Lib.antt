@@ -4,6 +4,8 @@ pub mod Laws
 mod Standing
 -- What the variables begin with.
 mod Starting
+-- Variables that stand one behind the other.
+mod Pieces
 -- Worked by hand.
 mod WorkedRooms
 mod WorkedMemory

@@ -17,7 +17,7 @@ use Rattle.packed_form.specs.declared.entries.EntryKind.TheVariants.{Note}
 use Rattle.packed_form.specs.Entries.{IsEntry, no_command}
 use Rattle.packed_form.specs.Unpacked.{unpacked_song, unpacked_pattern}
 use Rattle.player_memory.specs.declared.conditions.TheConstants.{FILTER_TABLE}
-use Rattle.player_memory.specs.declared.labels.TheConstants.{ORDERS, REST, PATTERN_LOW}
+use Rattle.player_memory.specs.declared.labels.TheConstants.{ORDERS, PATTERNS, REST, PATTERN_LOW}
 use Rattle.player_memory.specs.Rooms.{IsElsewhere}
 use Rattle.player_memory.specs.declared.variables.TheConstants.{COMMON_BYTES}
 use Rattle.player_memory.specs.Playing.{own_at, shared_at, place_in, IsPlaying}
@@ -33,9 +33,9 @@ use Rattle.player_memory.specs.WorkedStarting.{its_orders}
 use Rattle.player_memory.specs.WorkedLists.{worked_song, list_layout, plain_song, plain_layout}
 use Rattle.player_memory.specs.WorkedHolds.{memory_with, song_memory, HasLists, HasPlainLists, ListsAreInMemory}
 use Rattle.player_memory.specs.WorkedHolds.{IsLaidOut, PatternAt, LayoutsAreWorked, HoldsIn, StatesAreHeld, KeepsBut}
-use Rattle.player_memory.specs.WorkedHolds.{KeptAreWorked, walked_memory, walked_state, HoldsSecond}
+use Rattle.player_memory.specs.WorkedHolds.{KeptAreWorked, moved_in, walked_memory, walked_state, HoldsSecond}
 use Rattle.player_memory.proofs.Standing.{playing_in}
-use Rattle.player_memory.proofs.WorkedRooms.{IsLaid, IsOpen, room_in, uses_in, behind_slides}
+use Rattle.player_memory.proofs.WorkedRooms.{IsLaid, IsOpen, room_in, uses_in, behind_slides, off_variables}
 use Rattle.player_memory.proofs.WorkedMemory.{neither}
 use Rattle.player_memory.proofs.Starting.{voice_begins, shared_rows_begin, beginnings_play}
 use Rattle.player_memory.proofs.SetLists.{all_are_set, lists_stand, behind}
@@ -61,7 +61,7 @@ away place from to = behind_slides list_layout is_laid place from (omega (arith,
 
 away_plainly : (place : ℕ) → 0x1108 ≤ place → place < 0x1400 → IsElsewhere plain_layout 4 place
 away_plainly place from to = record {
-  variables = inr (omega (arith, from));
+  variables = off_variables plain_layout refl place (inr (omega (arith, from)));
   slides_low = λ kept. absurd (both_ways false refl kept);
   slides_high = λ kept. absurd (both_ways false refl kept);
   low = λ e. omega (arith, from, e);
@@ -218,7 +218,7 @@ last_place = record {
   from = omega arith;
   to = omega arith;
   before = record {
-    variables = inr (omega arith);
+    variables = off_variables (moved_in list_layout PATTERNS 0x10000) refl 0xFFFF (inr (omega arith));
     slides_low = λ kept. inr (omega arith);
     slides_high = λ kept. inr (omega arith);
     low = λ e. omega (arith, e);
@@ -246,10 +246,9 @@ layouts_are_worked = record {
   last = last_place;
   past = λ stands. (let l = stands.to in omega (arith, l));
   none = λ stands. (let l = stands.from in omega (arith, l));
-  variable = λ stands. neither (λ l. omega (arith, l)) (λ l. omega (arith, l)) stands.before.variables;
+  variable = λ stands. stands.before.variables 112 (omega arith) refl;
   unread = λ stands. both_ways false refl stands.reads_before;
-  each = λ is.
-      neither (λ l. omega (arith, l)) (λ l. omega (arith, l)) (is.patterns 1 (omega arith)).before.variables;
+  each = λ is. (is.patterns 1 (omega arith)).before.variables 112 (omega arith) refl;
 }
 
 -- ---- states

@@ -1,7 +1,7 @@
 -- The variables, a voice in its bytes and a room, worked.
 use Rattle.std.proofs.Common.{◌⊎◌, false, ◌+◌, true, nat_eq, refl, arith, inl, inr}
 use Rattle.std.proofs.lemmas.Bool.{eqb-true, agree_below_at, both_ways}
-use Rattle.player_memory.specs.declared.labels.TheConstants.{PULSE_HIGH, VIB_DELAY, NOTE}
+use Rattle.player_memory.specs.declared.labels.TheConstants.{TICK, PULSE_HIGH, VIB_DELAY, NOTE}
 use Rattle.code_runs.specs.Runs.{put}
 use Rattle.player_memory.specs.Labels.{is_own, is_shared}
 use Rattle.player_memory.specs.WorkedMemory.{times, own_rows, shared_rows, is_of, counted, VariablesHaveRows}
@@ -17,7 +17,7 @@ use Rattle.player_memory.specs.WorkedMemory.{CommonsAreWorked}
 use Rattle.player_memory.specs.WorkedMemory.{everywhere, nowhere, sounding, its_bytes, VoicesAreWorked, at_1000}
 use Rattle.player_memory.specs.WorkedMemory.{RoomsAreWorked}
 use Rattle.player_memory.proofs.Standing.{bytes_stand, shared_bytes_stand}
-use Rattle.player_memory.proofs.WorkedRooms.{IsLaid, IsOpen, room_in, uses_in, behind_slides}
+use Rattle.player_memory.proofs.WorkedRooms.{IsLaid, IsOpen, room_in, uses_in, behind_slides, off_variables}
 
 pub variables_have_rows : VariablesHaveRows
 variables_have_rows = record {
@@ -154,7 +154,7 @@ rooms_are_worked = record {
   room = room_in at_1000 is_laid;
   uses = uses_in at_1000 is_laid is_open;
   before = record {
-    variables = inl (omega arith);
+    variables = off_variables at_1000 refl 0x1005 (inl (omega arith));
     slides_low = λ kept. inl (omega arith);
     slides_high = λ kept. inl (omega arith);
     low = λ e. omega (arith, e);
@@ -162,15 +162,22 @@ rooms_are_worked = record {
     registers = inl (omega arith);
   };
   behind = behind_slides at_1000 is_laid 0x1108 (omega arith) (omega arith);
-  variable = λ away. neither (λ l. omega (arith, l)) (λ l. omega (arith, l)) away.variables;
+  variable = λ away. away.variables 112 (omega arith) refl;
   slide = λ away. neither (λ l. omega (arith, l)) (λ l. omega (arith, l)) (away.slides_high refl);
   pointer = λ away. away.high refl;
   register = λ away. neither (λ l. omega (arith, l)) (λ l. omega (arith, l)) away.registers;
   overlap = λ room. neither (λ l. omega (arith, l)) (λ l. omega (arith, l)) (room.slides refl).apart;
   low = λ room. (let from = (room.slides refl).low.from in omega (arith, from));
   high = λ room. (let to = (room.slides refl).high.to in omega (arith, to));
-  on_variable = λ room. neither (λ l. omega (arith, l)) (λ l. omega (arith, l)) (room.slides refl).high.outside;
-  variable_apart = λ room. (let place = room.variables 112 (omega arith) in omega (arith, place));
+  on_variable = λ room.
+      neither (λ l. omega (arith, l)) (λ l. omega (arith, l)) ((room.slides refl).high.outside 112 (omega arith));
+  variable_apart = λ room. (let same = room.variables.apart CUTOFF VOLUME (omega arith) (omega arith) refl in
+      omega (arith, same));
+  variable_low = λ room. (let from = room.variables.from VOLUME (omega arith) in omega (arith, from));
+  variable_high = λ room. (let to = room.variables.to VOLUME (omega arith) in omega (arith, to));
+  second_voice = λ room. (let behind = room.variables.voices TICK 1 refl (omega arith) in omega (arith, behind));
+  third_voice = λ room. (let behind = room.variables.voices TICK 2 refl (omega arith) in omega (arith, behind));
+  funk_apart = λ room. (let behind = room.variables.funk in omega (arith, behind));
   port = λ room. (let l = room.pointer_low in omega (arith, l));
   closed = λ uses. both_ways false refl (uses.registers 0 (omega arith));
 }

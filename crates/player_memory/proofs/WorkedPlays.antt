@@ -7,7 +7,7 @@ use Rattle.std.proofs.lemmas.Bool.{agree_below_at, both_ways}
 use Rattle.code_runs.specs.Runs.{put}
 use Rattle.code_runs.proofs.Laws.{put_other}
 use Rattle.scopes.specs.Meaning.{Outcome, Done, Again}
-use Rattle.player_memory.specs.declared.labels.TheConstants.{LENT, KEPT_COMMAND, KEPT_PARAM}
+use Rattle.player_memory.specs.declared.labels.TheConstants.{TICK, LENT, KEPT_COMMAND, KEPT_PARAM}
 use Rattle.player_memory.specs.declared.labels.TheConstants.{PULSE_LEFTS, PULSE_RIGHTS}
 use Rattle.player_memory.specs.declared.variables.TheConstants.{VOICE_BYTES, COMMON_BYTES, SONG_BYTES}
 use Rattle.player_memory.specs.Labels.{is_own}
@@ -16,7 +16,7 @@ use Rattle.player_memory.specs.Playing.{own_at, shared_at, place_in, IsListed, I
 use Rattle.player_memory.specs.WorkedMemory.{at_1000, everywhere}
 use Rattle.player_memory.proofs.Standing.{are_held, are_shared, are_tempos, playing_in, have_same, are_same}
 use Rattle.player_memory.proofs.WorkedMemory.{neither, is_laid}
-use Rattle.player_memory.proofs.WorkedRooms.{behind_slides}
+use Rattle.player_memory.proofs.WorkedRooms.{behind_slides, off_variables}
 use Rattle.player_memory.specs.WorkedPlays.{PlaysWith, beginning, its_memory, PlaysAreWorked, with_lists, far_lists}
 use Rattle.player_memory.specs.WorkedPlays.{PlaysWith, its_lists, its_rows, ListsAreWorked}
 
@@ -138,7 +138,7 @@ listed : (label number place byte : ℕ) → place_in with_lists label number �
     0x1108 ≤ place → place < 0x1200 → IsListed with_lists 4 its_lists label number byte
 listed label number place byte is holds from to = record {
   elsewhere = rw is (record {
-    variables = inr (omega (arith, from));
+    variables = off_variables with_lists refl place (inr (omega (arith, from)));
     slides_low = λ kept. inr (omega (arith, from));
     slides_high = λ kept. inr (omega (arith, from));
     low = λ e. omega (arith, from, e);
@@ -170,7 +170,7 @@ full_listed : (label base number : ℕ) → far_lists.address label ≡ base →
     number ≤ 255 → IsListed far_lists 4 (λ place. 0) label number 0
 full_listed label base number is from below to = record {
   elsewhere = rw (is, place) (record {
-    variables = inr (omega (arith, from));
+    variables = off_variables far_lists refl (base + number) (inr (omega (arith, from)));
     slides_low = λ kept. inr (omega (arith, from));
     slides_high = λ kept. inr (omega (arith, from));
     low = λ e. omega (arith, from, e);
@@ -201,10 +201,10 @@ lists_are_worked = record {
   first_left = λ table. (let byte = (table.each 1 (omega arith) (omega arith)).left.is in omega (arith, byte));
   last_right = λ table. (let byte = (table.each 2 (omega arith) (omega arith)).right.is in omega (arith, byte));
   unread = λ listed. both_ways false refl listed.reads;
-  variable = λ listed. neither (λ l. omega (arith, l)) (λ l. omega (arith, l)) listed.elsewhere.variables;
+  variable = λ listed. listed.elsewhere.variables (TICK + 7) (omega arith) refl;
   over = record {
     elsewhere = record {
-      variables = inl (omega arith);
+      variables = λ label few e. omega (arith, e);
       slides_low = λ kept. inl (omega arith);
       slides_high = λ kept. inl (omega arith);
       low = λ e. omega (arith, e);

@@ -187,7 +187,14 @@ pub record RoomsAreWorked : Type 0 where
   pub low : ¬ IsRoom (moved SLIDES_LOW 0x07FF) 4
   pub high : ¬ IsRoom (moved SLIDES_HIGH 0xCFFD) 4
   pub on_variable : ¬ IsRoom (moved SLIDES_HIGH 0x1076) 4
-  pub variable_apart : ¬ IsRoom (moved 112 0x1077) 4
+  -- two variables at one place, one on the stack or at $D000, voices' bytes that aren't 7 and 14 behind, and a second
+  -- funk tempo that isn't behind the first
+  pub variable_apart : ¬ IsRoom (moved VOLUME 0x1070) 4
+  pub variable_low : ¬ IsRoom (moved VOLUME 0x01FF) 4
+  pub variable_high : ¬ IsRoom (moved VOLUME 0xD000) 4
+  pub second_voice : ¬ IsRoom (moved (TICK + 7) 0x0FFF) 4
+  pub third_voice : ¬ IsRoom (moved (TICK + 14) 0x0FFF) 4
+  pub funk_apart : ¬ IsRoom (moved FUNK_TWO 0x1077) 4
   pub port : ¬ IsRoom (record at_1000 { pointer = 1 }) 4
   -- where a register may not be written the room may not be used
   pub closed : ¬ MayUse (record at_1000 { may_write = λ place. nat_le 0x1006 place && nat_lt place 0x1108 }) 4

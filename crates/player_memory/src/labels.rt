@@ -1,8 +1,9 @@
 //! The labels of the player's bytes and lists.
 //!
-//! A variable's label is its place among the player's 113 variables. The bytes of a voice stand in five groups, each of
-//! 7 bytes for the first voice, 7 for the second and 7 for the third, so that they are 7 apart as the voices' SID
-//! registers are. In the last group a voice has 6, and the byte that is free takes one of all voices.
+//! A variable's label is one of the numbers below 113. The labels of a voice stand in five groups, each of 7 for the first
+//! voice, 7 for the second and 7 for the third, so that they are 7 apart as the voices' SID registers are; in the last
+//! group a voice has 6, and the label that is left is one of all voices. Which variables have a byte, and where these
+//! stand, says `variable_places`.
 
 /// Rests that are left behind the row that was fetched last.
 pub const REST: u16 = 0;

@@ -1,5 +1,5 @@
 -- The facts, computed by the checker.
-use Rattle.std.proofs.Common.{◌≡◌, ℕ, ◌<◌, true, refl, nat_lt}
+use Rattle.std.proofs.Common.{◌≡◌, ℕ, ◌-◌, ◌<◌, true, refl, nat_lt, arith}
 use Rattle.std.proofs.lemmas.Bool.{lt-ltb}
 use Rattle.player_text.specs.Steps.{AreMade}
 use Rattle.player_text.specs.Facts.{AreBlocks, HaveLines, RestOnFew, NameFew, AreMeasured}
@@ -13,18 +13,18 @@ rest_on_few = record {
   voice = refl;
   voice_by_load = refl;
   voice_without = refl;
-  init = λ start. refl;
-  init_without = λ start. refl;
+  init = λ start variables. refl;
+  init_without = λ start variables. refl;
 }
 
 pub name_few : NameFew
-name_few = record { filter = refl; voice = refl; init = λ start. refl }
+name_few = record { filter = refl; voice = refl; init = λ start variables. refl }
 
 pub are_measured : AreMeasured
 are_measured = record {
   filter = record { counts = refl; takes_bare = refl; takes_full = refl; takes_most = refl; weighs = refl };
   voice = record { counts = refl; takes_bare = refl; takes_full = refl; takes_most = refl; weighs = refl };
-  init = λ start. record { counts = refl; takes_bare = refl; takes_full = refl; takes_most = refl; weighs = refl };
+  init = λ start variables. record { counts = refl; takes_bare = refl; takes_full = refl; takes_most = refl; weighs = refl };
 }
 
 -- each number that is loaded is a byte
@@ -35,8 +35,9 @@ pub are_blocks : AreBlocks
 are_blocks = record {
   filter = refl;
   voice = refl;
-  init = λ start bytes.
+  init = λ start variables bytes byte.
       rw (
+        is_byte (variables - 1) (omega (arith, byte)),
         is_byte start.tempo bytes.tempo,
         is_byte start.funk bytes.funk,
         is_byte start.timer_low bytes.timer_low,
@@ -48,8 +49,9 @@ pub have_lines : HaveLines
 have_lines = record {
   filter = refl;
   voice = refl;
-  init = λ start bytes.
+  init = λ start variables bytes byte.
       rw (
+        is_byte (variables - 1) (omega (arith, byte)),
         is_byte start.tempo bytes.tempo,
         is_byte start.funk bytes.funk,
         is_byte start.timer_low bytes.timer_low,

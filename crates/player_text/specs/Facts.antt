@@ -29,12 +29,12 @@ pub record HasBytes (start : Start) : Type 0 where
 pub record AreBlocks : Type 0 where
   pub filter : is_block filter_lines ≡ true
   pub voice : is_block voice_lines ≡ true
-  pub init : (start : Start) → HasBytes start → is_block (init_lines start) ≡ true
+  pub init : (start : Start) (variables : ℕ) → HasBytes start → variables < 256 → is_block (init_lines start variables) ≡ true
 
 pub record HaveLines : Type 0 where
   pub filter : has_lines nothing_around filter_tree ≡ true
   pub voice : has_lines nothing_around voice_tree ≡ true
-  pub init : (start : Start) → HasBytes start → has_lines nothing_around (init_tree start) ≡ true
+  pub init : (start : Start) (variables : ℕ) → HasBytes start → variables < 256 → has_lines nothing_around (init_tree start variables) ≡ true
 
 -- ---- on which registers they rest
 
@@ -44,8 +44,8 @@ pub record RestOnFew : Type 0 where
   pub voice : (known voice_tree the_x).reads_known ≡ true
   pub voice_by_load : (known voice_tree (either the_x shown)).reads_known ≡ true
   pub voice_without : (known voice_tree nothing).reads_known ≡ false
-  pub init : (start : Start) → (known (init_tree start) the_a).reads_known ≡ true
-  pub init_without : (start : Start) → (known (init_tree start) nothing).reads_known ≡ false
+  pub init : (start : Start) (variables : ℕ) → (known (init_tree start variables) the_a).reads_known ≡ true
+  pub init_without : (start : Start) (variables : ℕ) → (known (init_tree start variables) nothing).reads_known ≡ false
 
 -- ---- which labels they name
 
@@ -66,7 +66,8 @@ is_order_list label = label == ORDERS_LOW || label == ORDERS_HIGH
 pub record NameFew : Type 0 where
   pub filter : uses_only (λ label. is_shared label || is_filter_list label) filter_tree ≡ true
   pub voice : uses_only (λ label. is_variable label || is_list label) voice_tree ≡ true
-  pub init : (start : Start) → uses_only (λ label. is_variable label || is_order_list label) (init_tree start) ≡ true
+  pub init : (start : Start) (variables : ℕ) →
+      uses_only (λ label. is_variable label || is_order_list label) (init_tree start variables) ≡ true
 
 -- ---- how long and how heavy they are
 
@@ -82,5 +83,5 @@ pub record Measures (lines : List Line) (count bare full heavy : ℕ) : Type 0 w
 -- of a voice the walk alone has 4,340 instructions, in 255 turns, and the halves of a half tone 64, in 16
 pub record AreMeasured : Type 0 where
   pub filter : Measures filter_lines 66 16 102 40
-  pub voice : Measures voice_lines 958 324 1332 4929
-  pub init : (start : Start) → Measures (init_lines start) 57 64 90 487
+  pub voice : Measures voice_lines 967 314 1336 4931
+  pub init : (start : Start) (variables : ℕ) → Measures (init_lines start variables) 57 64 90 487

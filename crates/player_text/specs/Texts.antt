@@ -1,7 +1,7 @@
 -- The lines of the player's blocks, and their trees. This is the project's own player.
-use Rattle.std.specs.Prelude.{ℕ, List, [], ◌∷◌, ◌++◌}
+use Rattle.std.specs.Prelude.{ℕ, ◌-◌, List, [], ◌∷◌, ◌++◌}
 use Rattle.std.specs.List.{flat_map}
-use Rattle.cpu6502.specs.declared.mnemonic.Mnemonic.TheVariants.{Lda}
+use Rattle.cpu6502.specs.declared.mnemonic.Mnemonic.TheVariants.{Lda, Ldx}
 use Rattle.scopes.specs.declared.line.Line.{Line}
 use Rattle.scopes.specs.declared.line.Line.TheVariants.{With, When, Loop, End}
 use Rattle.scopes.specs.declared.line.Operand.TheVariants.{Number}
@@ -9,8 +9,8 @@ use Rattle.scopes.specs.Trees.{Tree, tree_of}
 use Rattle.player_memory.specs.declared.conditions.TheConstants.{TIMED, FUNK_TEMPO}
 use Rattle.player_text.specs.declared.filter.TheConstants.{FILTER}
 use Rattle.player_text.specs.declared.texts.Start.{Start}
-use Rattle.player_text.specs.declared.init.TheConstants.{SUBTUNE_TAKEN, TIMER_LOW_SET, TIMER_HIGH_SET, ALL_CLEARED}
-use Rattle.player_text.specs.declared.init.TheConstants.{FUNK_STARTED, VOICES_STARTED, VOICE_STARTED, TEMPO_STARTED}
+use Rattle.player_text.specs.declared.init.TheConstants.{SUBTUNE_TAKEN, TIMER_LOW_SET, TIMER_HIGH_SET, REGISTERS_CLEARED}
+use Rattle.player_text.specs.declared.init.TheConstants.{VARIABLES_CLEARED, FUNK_STARTED, VOICES_STARTED, VOICE_STARTED, TEMPO_STARTED}
 use Rattle.player_text.specs.declared.voice.TheConstants.{VOICE}
 
 -- ---- play: the filter, and each voice
@@ -27,16 +27,23 @@ voice_lines = flat_map (λ step. flat_map (λ piece. piece.now) step.now) VOICE.
 abbrev pub voice_tree : Tree
 voice_tree = tree_of voice_lines
 
--- ---- init, with the numbers with which a subtune begins
+-- ---- init, with the numbers with which a subtune begins, and how many bytes the variables take
 
 abbrev load : ℕ → Line
 load number = With Lda (Number number)
 
--- the timer, where there are several play calls in a picture; the first funk tempo, where a command takes turns; and
--- the three voices
+-- so many bytes stand behind the first of the variables
+abbrev pub load_last : ℕ → Line
+load_last variables = With Ldx (Number (variables - 1))
+
+-- the timer, where there are several play calls in a picture; the registers and the variables; the first funk tempo,
+-- where a command takes turns; and the three voices
 abbrev timer_lines : Start → List Line
 timer_lines start =
     When TIMED ∷ load start.timer_low ∷ (TIMER_LOW_SET.now ++ load start.timer_high ∷ (TIMER_HIGH_SET.now ++ End ∷ []))
+
+abbrev clear_lines : ℕ → List Line
+clear_lines variables = REGISTERS_CLEARED.now ++ load_last variables ∷ VARIABLES_CLEARED.now
 
 abbrev funk_lines : Start → List Line
 funk_lines start = When FUNK_TEMPO ∷ load start.funk ∷ (FUNK_STARTED.now ++ End ∷ [])
@@ -45,10 +52,10 @@ abbrev start_lines : Start → List Line
 start_lines start =
     VOICES_STARTED.now ++ Loop 3 ∷ (VOICE_STARTED.now ++ load start.tempo ∷ (TEMPO_STARTED.now ++ End ∷ []))
 
-abbrev pub init_lines : Start → List Line
-init_lines start =
+abbrev pub init_lines : Start → ℕ → List Line
+init_lines start variables =
     SUBTUNE_TAKEN.now
-    ++ (timer_lines start ++ (ALL_CLEARED.now ++ (funk_lines start ++ start_lines start)))
+    ++ (timer_lines start ++ (clear_lines variables ++ (funk_lines start ++ start_lines start)))
 
-abbrev pub init_tree : Start → Tree
-init_tree start = tree_of (init_lines start)
+abbrev pub init_tree : Start → ℕ → Tree
+init_tree start variables = tree_of (init_lines start variables)

@@ -33,6 +33,8 @@ pub const RESTS: u8 = 7;
 pub const END: u8 = 8;
 /// The gate is set.
 pub const HELD: u8 = 9;
+/// Whether it is tick 0 of the pattern's first row is remembered; Y is the offset.
+pub const LATER: u8 = 10;
 
 /// Leaves `FETCHES` where a row is due that has an entry of its own, with the entry's offset in Y. Leaves `PULSED`
 /// where no row is due, and with a rest, or `SOUNDS` with one where an option says so. Leaves `LATE` before the
@@ -84,15 +86,22 @@ pub const FIRST_REACHED: &[Line] = text! {
 /// Behind `FETCHES`: Y is the entry's offset, which isn't 0. Takes its instrument. Behind it A is the byte that
 /// follows, and Y the offset of that.
 pub const ENTRY_BEGUN: &[Line] = text! {
-    when SKIP_FIRST { Sty Var KEPT_PARAM; }
-    scope RUNNING_ON {
-        Cpy Number 1;
-        leave RUNNING_ON off Zero;
-        when ROW_COMMAND { // Stores NEW_COMMAND, which nothing reads without it; keeps Y.
+    when SKIP_FIRST { // KEPT_PARAM is 0 exactly at tick 0 of the pattern's first row; keeps Y.
+        scope LATER {
+            Sty Var KEPT_PARAM;
+            Cpy Number 1;
+            leave LATER off Zero;
+            Lda Own TICK;
+            Sta Var KEPT_PARAM;
+        }
+    }
+    when ROW_COMMAND { // Stores NEW_COMMAND, which nothing reads without it; keeps Y.
+        scope RUNNING_ON {
+            Cpy Number 1;
+            leave RUNNING_ON off Zero;
             Lda Number 0;
             Sta Own NEW_COMMAND;
         }
-        when SKIP_FIRST { Lda Own TICK; Sta Var KEPT_PARAM; } // 0 exactly at tick 0 of the pattern's first row.
     }
     Lda Own PATTERN_LOW;
     Sta Pointer Low;
@@ -122,8 +131,7 @@ pub const ENTRY_READ: &[Line] = text! {
                     Sta Own NEW_COMMAND;
                 }
                 Iny;
-                Lda Pointed;
-                when ROW_COMMAND { Sta Own NEW_PARAM; } // Nothing reads it without it; keeps Y and the carry.
+                when ROW_COMMAND { Lda Pointed; Sta Own NEW_PARAM; } // Nothing reads it without it; keeps Y and the carry.
                 leave READ on Carry;
                 Iny;
                 Lda Pointed;

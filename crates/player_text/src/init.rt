@@ -25,8 +25,8 @@ pub const TIMER_HIGH_SET: &[Line] = text! {
     Sta Timer High;
 };
 
-/// All registers and variables are 0, and the volume is 15, where a command sets it. It keeps Y.
-pub const ALL_CLEARED: &[Line] = text! {
+/// All registers are 0, and so is A. It keeps Y.
+pub const REGISTERS_CLEARED: &[Line] = text! {
     Lda Number 0;
     Ldx Number 24;
     turns 25 {
@@ -34,7 +34,11 @@ pub const ALL_CLEARED: &[Line] = text! {
         Dex;
         again off Minus;
     }
-    Ldx Number 112;
+};
+
+/// X is how many bytes stand behind the first of the variables, and A is 0: all variables are 0, and the volume is 15,
+/// where a command sets it. It keeps Y.
+pub const VARIABLES_CLEARED: &[Line] = text! {
     turns 113 {
         Sta Own FIRST_VARIABLE;
         Dex;

@@ -1,15 +1,15 @@
 //! The texts of the player: what a frame does before its voices, what it does for a voice, and what begins a subtune.
 
-ghost use Rattle.std.specs.Prelude.{◌≡◌, IfOk};
-ghost use Rattle.cpu6502.specs.declared.mnemonic.Mnemonic.TheVariants.{Lda};
+ghost use Rattle.std.specs.Prelude.{◌≡◌, ◌≤◌, IfOk};
+ghost use Rattle.cpu6502.specs.declared.mnemonic.Mnemonic.TheVariants.{Lda, Ldx};
 ghost use Rattle.scopes.specs.declared.line.Line.TheVariants.{With};
 ghost use Rattle.scopes.specs.declared.line.Operand.TheVariants.{Number};
-ghost use Rattle.player_text.specs.Texts.{filter_lines, voice_lines, init_lines};
+ghost use Rattle.player_text.specs.Texts.{filter_lines, voice_lines, load_last, init_lines};
 
 use crate::filter::FILTER;
 use crate::init::{
-    ALL_CLEARED, FUNK_STARTED, SUBTUNE_TAKEN, TEMPO_STARTED, TIMER_HIGH_SET, TIMER_LOW_SET,
-    VOICE_STARTED, VOICES_STARTED,
+    FUNK_STARTED, REGISTERS_CLEARED, SUBTUNE_TAKEN, TEMPO_STARTED, TIMER_HIGH_SET, TIMER_LOW_SET,
+    VARIABLES_CLEARED, VOICE_STARTED, VOICES_STARTED,
 };
 use crate::pieces::{joined, pieces};
 use crate::voice::VOICE;
@@ -60,16 +60,27 @@ fn load(number: u8) -> Line
     Line::With(Mnemonic::Lda, Operand::Number(number))
 }
 
-/// The lines that begin a subtune. A is its number, counted from 0, and no other register is rested on.
+/// Takes the number of bytes that stand behind the first of the variables into X.
+fn load_last(variables: u8) -> Line
+    requires { 1 ≤ variables }
+    ensures { result ≡ load_last variables }
+{
+    Line::With(Mnemonic::Ldx, Operand::Number(variables - 1))
+}
+
+/// The lines that begin a subtune, where the variables take so many bytes, 1 to 113. A is the subtune's number, counted
+/// from 0, and no other register is rested on.
 ///
 /// # Errors
 ///
 /// Out of memory.
-pub fn init(alloc: Global, start: Start) -> Result<Items<Line>, NoMemory>
-    ensures { IfOk result (λ lines. lines ≡ init_lines start) }
+pub fn init(alloc: Global, start: Start, variables: u8) -> Result<Items<Line>, NoMemory>
+    requires { 1 ≤ variables }
+    ensures { IfOk result (λ lines. lines ≡ init_lines start variables) }
 {
     let timer_low = &[load(start.timer_low)];
     let timer_high = &[load(start.timer_high)];
+    let last_variable = &[load_last(variables)];
     let funk = &[load(start.funk)];
     let each_voice = &[Line::Loop(3)];
     let tempo = &[load(start.tempo)];
@@ -82,7 +93,9 @@ pub fn init(alloc: Global, start: Start) -> Result<Items<Line>, NoMemory>
             put timer_high;
             put TIMER_HIGH_SET;
         }
-        put ALL_CLEARED;
+        put REGISTERS_CLEARED;
+        put last_variable;
+        put VARIABLES_CLEARED;
         when FUNK_TEMPO { // Stores FUNK_ONE, which nothing reads without it; keeps Y.
             put funk;
             put FUNK_STARTED;

@@ -38,7 +38,7 @@ pub const NO_FILTER: u8 = 7;
 pub const ONCE: u8 = 8;
 /// A is the parameter of the command that runs.
 pub const SETTLED: u8 = 9;
-/// The row has no command: A is 0, Y the instrument.
+/// The row has no command: Y is the instrument, and A is 0 where a command may run.
 pub const BARE: u8 = 10;
 /// The command that runs is set.
 pub const TIMED: u8 = 11;
@@ -103,12 +103,14 @@ pub const NOTE_TAKEN: &[Line] = text! {
 
 /// The note begins: its vibrato, its first waveform and its mask. Y is the instrument, and stays it.
 pub const NOTE_BEGUN: &[Line] = text! {
-    Lda Number 0;
-    when WAVE_DELAY { Sta Own WAVE_TIME; } // Nothing reads it without it; keeps A and Y.
-    when EFFECTS { // Stores COMMAND and PARAM, which nothing reads without it; keeps Y.
+    choose EFFECTS { // This side stores COMMAND and PARAM, too, which nothing reads without it; keeps Y.
+        Lda Number 0;
+        when WAVE_DELAY { Sta Own WAVE_TIME; } // Nothing reads it without it; keeps A and Y.
         Sta Own COMMAND;
         when NOTE_VIBRATO { Lda Entry VIBRATOS; } // Idle where the vibrato is 0, as A is; keeps A and Y.
         Sta Own PARAM;
+    } or {
+        when WAVE_DELAY { Lda Number 0; Sta Own WAVE_TIME; } // Nothing reads it without it; keeps Y.
     }
     scope MASKED {
         scope MASK {
@@ -177,7 +179,7 @@ pub const COMMAND_BEGUN: &[Line] = text! {
                         leave SETTLED;
                     }
                 } or {
-                    Lda Number 0;
+                    when EFFECTS { Lda Number 0; } // Nothing reads A without it; keeps Y.
                 }
             }
             when EFFECTS { // Stores COMMAND, which nothing reads without it; keeps Y.
