@@ -15,21 +15,21 @@ use Rattle.packed_form.specs.declared.entries.EntryKind.TheVariants.{NamedNote, 
 use Rattle.packed_form.specs.declared.entries.Entry.{Entry}
 use Rattle.packed_form.specs.Entries.{IsEntry, no_command}
 use Rattle.packed_form.specs.PackedSpells.{text_of}
-use Rattle.scopes.specs.Trees.{Tree, ThenTree, ScopeTree}
+use Rattle.scopes.specs.Trees.{Tree, NoneTree}
 use Rattle.player_memory.specs.declared.conditions.TheConstants.{SKIP_FIRST, ROW_COMMAND}
 use Rattle.player_memory.specs.declared.labels.TheConstants.{REST, OFFSET, PATTERN_LOW, PATTERN_HIGH}
 use Rattle.player_memory.specs.declared.labels.TheConstants.{TICK, NEW_COMMAND, NEW_PARAM, KEPT_PARAM, TEMPO}
 use Rattle.player_memory.specs.Fetching.{AreHalves, EntriesStand, last_command, running_command}
 use Rattle.player_desk.proofs.Laws.{VoiceDesk, Reader, Ways, Fields, Shared, Leads, Reads, done_as, in_scope, body_of}
-use Rattle.player_desk.proofs.Laws.{rest_of, joined, loaded, compared_is, over_is}
-use Rattle.player_text.specs.declared.fetch.TheConstants.{RUNNING_ON, OLD}
+use Rattle.player_desk.proofs.Laws.{rest_of, joined, goes_on, loaded, compared_is, over_is}
+use Rattle.player_text.specs.declared.fetch.TheConstants.{RUNNING_ON, LATER, OLD}
 use Rattle.entry_code.proofs.Texts.{stands_there, kind_first, kind_others, kind_from, text_with, text_without}
 use Rattle.entry_code.proofs.Texts.{text_begins, Begun, first_same, rest_same}
 use Rattle.player_desk.proofs.Laws.{around_on, Around}
 use Rattle.entry_code.proofs.Takes.{take_tree, PatternAt, SamePlay, Taking, IsBefore, IsByte, takes}
 use Rattle.player_desk.proofs.Laws.{at_pointer}
 use Rattle.entry_code.proofs.Takes.{next_byte}
-use Rattle.entry_code.proofs.LastBytes.{behind}
+use Rattle.entry_code.proofs.LastBytes.{first_of, behind}
 use Rattle.entry_code.proofs.Readings.{taken}
 
 -- ---- where it begins
@@ -106,92 +106,130 @@ at_other v row =
     let z : nat_eq v.row 0 ≡ false = ne_eqb v.row 0 row in
     rw z (sym (and_none (nat_eq v.tick 0)))
 
--- behind the command that runs on
-abbrev mark_tree : Tree
-mark_tree = behind (behind (behind (body_of RUNNING_ON take_tree)))
+same : {one two : ℕ → ℕ} → one ≡ two → SamePlay one two
+same e = rw e (record {
+  pattern_low = refl;
+  pattern_high = refl;
+  order_low = refl;
+  order_high = refl;
+  order_place = refl;
+  transpose = refl;
+  repeat = refl;
+})
+
+-- what is remembered of the row stands: whether it is a pattern's first at tick 0
+record AtMarked (r : Reader) (s : Playing) (d m : VoiceDesk) : Type 0 where
+  own : m.own ≡ d.own
+  around : Around r s d m
+  marked : r.layout.holds SKIP_FIRST ≡ true → nat_eq (m.shared KEPT_PARAM) 0 ≡ is_between_patterns s.voice
+  y : m.y ≡ d.own OFFSET
+
+mark_leads : (r : Reader) (s : Playing) (place : ℕ) (bytes : List ℕ) (rows : List Row) (ways : Ways) (d : VoiceDesk) →
+    AtFetch r s place bytes rows d → d.own OFFSET < 256 →
+    Leads r (first_of take_tree) (done_as (AtMarked r s d) ways) d
+mark_leads r s place bytes rows ways d at few = (
+  λ kept.
+      joined true r LATER (body_of LATER take_tree) NoneTree (AtMarked r s d) (done_as (AtMarked r s d) ways) d (
+        λ other.
+            let isnt : d.y ≢ 1 = over_is d.y 1 (omega arith) (not-true _ other) in
+            let some = at.some in
+            let y = at.y in record {
+              own = refl;
+              around = marks r s d d d.y _ refl refl at.around;
+              marked = λ held.
+                  ne_eqb d.y 0 (λ e. omega (arith, e, y, some))
+                  ∙ at_other s.voice (λ row. isnt (at.y ∙ at.first.0 row));
+              y = at.y;
+            },
+        λ one.
+            let y = at.y in
+            let is : d.own OFFSET ≡ 1 =
+            sym at.y ∙ compared_is d.y 1 (omega (arith, y, few)) (omega arith) (not-false _ one) in record {
+              own = refl;
+              around = marks r s d (record d { shared = put d.shared KEPT_PARAM d.y }) (d.own TICK) _ refl refl
+                  (marks r s d d d.y _ refl refl at.around);
+              marked = λ held. ap (λ t. nat_eq t 0) at.fields.tick ∙ at_first s.voice (at.first.1 is);
+              y = at.y;
+            },
+      )
+      (λ n marked. marked),
+  λ out. record {
+    own = refl;
+    around = at.around;
+    marked = λ held. absurd (both_ways (r.layout.holds SKIP_FIRST) out held);
+    y = at.y;
+  },
+)
 
 running_on_leads : (r : Reader) (s : Playing) (place : ℕ) (bytes : List ℕ) (rows : List Row) (ways : Ways)
-    (d m : VoiceDesk) → AtFetch r s place bytes rows d → d.own OFFSET < 256 → m.own ≡ d.own → Around r s d m →
-    m.y ≡ d.own OFFSET → (r.layout.holds SKIP_FIRST ≡ true → m.shared KEPT_PARAM ≡ d.own OFFSET) →
+    (d m : VoiceDesk) → AtFetch r s place bytes rows d → d.own OFFSET < 256 → AtMarked r s d m →
     Leads r (body_of RUNNING_ON take_tree) (in_scope RUNNING_ON (done_as (AtRunning r s d) ways)) m
-running_on_leads r s place bytes rows ways d m at few own around y marked = (
+running_on_leads r s place bytes rows ways d m at few on = (
   λ other.
       let isnt : m.y ≢ 1 = over_is m.y 1 (omega arith) (not-true _ other) in
-      let more : d.own OFFSET ≢ 1 = λ e. isnt (y ∙ e) in
+      let more : d.own OFFSET ≢ 1 = λ e. isnt (on.y ∙ e) in
       let test : nat_eq (d.own OFFSET) 1 ≡ false = ne_eqb (d.own OFFSET) 1 more in
       let running : running_command s.voice (d.own OFFSET) ≡ last_command s.voice = rw test refl in
       let fields : Fields r.layout.holds (taken 0 (last_command s.voice) s.voice) (tempo_of (r.voice + 1) s.common)
-      d.own = assumption at.fields in record {
-        fields = rw (running, own) fields;
-        rest_is = ap (λ f. f REST) own ∙ at.rest_is;
-        play = same own;
-        around = around_on refl refl around;
-        marked = λ held.
-            let some = at.some in
-            ne_eqb (m.shared KEPT_PARAM) 0 (λ e. (let is = marked held in omega (arith, is, e, some)))
-            ∙ at_other s.voice (λ row. more (at.first.0 row));
-        y = y;
-      },
+      d.own = assumption at.fields in
+      runs _ refl refl refl refl (rw (running, on.own) fields),
   λ one.
+      let y = on.y in
       let is : d.own OFFSET ≡ 1 = sym y ∙ compared_is m.y 1 (omega (arith, y, few)) (omega arith) (not-false _ one) in
       let test : nat_eq (d.own OFFSET) 1 ≡ true = eq-eqb (d.own OFFSET) 1 is in
       let running : running_command s.voice (d.own OFFSET) ≡ no_command = rw test refl in
       let none : r.layout.holds ROW_COMMAND ≡ true → no_command.number ≢ 0 → m.own NEW_PARAM ≡ no_command.param =
       λ kept some. absurd (some refl) in
-      let before : Fields r.layout.holds s.voice (tempo_of (r.voice + 1) s.common) m.own = rw own at.fields in
-      let play : SamePlay m.own d.own = same own in
-      let rest_is = ap (λ f. f REST) own ∙ at.rest_is in (
-        λ kept.
-            mark_leads
-            (record m { own = put m.own NEW_COMMAND 0; a = 0; c = nat_le 1 m.y; z = true; n = false }) running
-            (assumption (none, before)) rest_is (assumption play) (around_on refl refl around) y is,
-        λ out.
-            let bare : r.layout.holds ROW_COMMAND ≡ true → m.own NEW_COMMAND ≡ no_command.number =
-            λ kept. absurd (both_ways (r.layout.holds ROW_COMMAND) out kept) in
-            mark_leads
-            (record m {
-              c = nat_le 1 m.y;
-              z = nat_eq ((m.y + (256 - 1)) % 256) 0;
-              n = nat_le 128 ((m.y + (256 - 1)) % 256);
-            }) running
-            (assumption (none, bare, before)) rest_is play (around_on refl refl around) y is,
-      ),
+      let before : Fields r.layout.holds s.voice (tempo_of (r.voice + 1) s.common) m.own = rw on.own at.fields in
+      let fields : Fields r.layout.holds (taken 0 no_command s.voice) (tempo_of (r.voice + 1) s.common)
+      (put m.own NEW_COMMAND 0) = assumption (none, before) in
+      let play : SamePlay m.own d.own = same on.own in record {
+        fields = rw running fields;
+        rest_is = ap (λ f. f REST) on.own ∙ at.rest_is;
+        play = assumption play;
+        around = around_on refl refl on.around;
+        marked = on.marked;
+        y = on.y;
+      },
 )
   where
-    -- no command runs on, and the mark is what is left
-    mark_leads : (n : VoiceDesk) → running_command s.voice (d.own OFFSET) ≡ no_command →
-        Fields r.layout.holds (taken 0 no_command s.voice) (tempo_of (r.voice + 1) s.common) n.own →
-        n.own REST ≡ 0 → SamePlay n.own d.own → Around r s d n → n.y ≡ d.own OFFSET → d.own OFFSET ≡ 1 →
-        Leads r mark_tree (in_scope RUNNING_ON (done_as (AtRunning r s d) ways)) n
-    mark_leads n running fields rest_is play around y is = (
-      λ held. record {
-        fields = rw running fields;
-        rest_is = rest_is;
-        play = play;
-        around = marks r s d n (n.own TICK) _ refl refl around;
-        marked = λ again. ap (λ t. nat_eq t 0) fields.tick ∙ at_first s.voice (at.first.1 is);
-        y = y;
-      },
-      λ out. record {
-        fields = rw running fields;
-        rest_is = rest_is;
-        play = play;
-        around = around_on refl refl around;
-        marked = λ held. absurd (both_ways (r.layout.holds SKIP_FIRST) out held);
-        y = y;
-      },
-    )
+    runs : (n : VoiceDesk) → n.own ≡ m.own → n.shared ≡ m.shared → n.sid ≡ m.sid → n.y ≡ m.y →
+        Fields r.layout.holds (taken 0 (running_command s.voice (d.own OFFSET)) s.voice)
+        (tempo_of (r.voice + 1) s.common) m.own → AtRunning r s d n
+    runs n own shared sid y fields = record {
+      fields = rw own fields;
+      rest_is = ap (λ f. f REST) (own ∙ on.own) ∙ at.rest_is;
+      play = same (own ∙ on.own);
+      around = around_on shared sid on.around;
+      marked = λ held. ap (λ f. nat_eq (f KEPT_PARAM) 0) shared ∙ on.marked held;
+      y = y ∙ on.y;
+    }
 
-    same : {one two : ℕ → ℕ} → one ≡ two → SamePlay one two
-    same e = rw e (record {
-      pattern_low = refl;
-      pattern_high = refl;
-      order_low = refl;
-      order_high = refl;
-      order_place = refl;
-      transpose = refl;
-      repeat = refl;
-    })
+-- where the lines of rows' commands aren't kept their bytes may be any
+row_leads : (r : Reader) (s : Playing) (place : ℕ) (bytes : List ℕ) (rows : List Row) (ways : Ways)
+    (d m : VoiceDesk) → AtFetch r s place bytes rows d → d.own OFFSET < 256 → AtMarked r s d m →
+    Leads r (first_of (behind take_tree)) (done_as (AtRunning r s d) ways) m
+row_leads r s place bytes rows ways d m at few on = (
+  λ kept.
+      joined true r RUNNING_ON (body_of RUNNING_ON take_tree) NoneTree (AtRunning r s d)
+      (done_as (AtRunning r s d) ways) m
+      (running_on_leads r s place bytes rows (done_as (AtRunning r s d) ways) d m at few on)
+      (λ n runs. runs),
+  λ out.
+      let running = running_command s.voice (d.own OFFSET) in
+      let bare : r.layout.holds ROW_COMMAND ≡ true → m.own NEW_COMMAND ≡ running.number =
+      λ kept. absurd (both_ways (r.layout.holds ROW_COMMAND) out kept) in
+      let none : r.layout.holds ROW_COMMAND ≡ true → running.number ≢ 0 → m.own NEW_PARAM ≡ running.param =
+      λ kept some. absurd (both_ways (r.layout.holds ROW_COMMAND) out kept) in
+      let before : Fields r.layout.holds s.voice (tempo_of (r.voice + 1) s.common) m.own = rw on.own at.fields in record {
+        fields = assumption (none, bare, before);
+        rest_is = ap (λ f. f REST) on.own ∙ at.rest_is;
+        play = same on.own;
+        around = on.around;
+        marked = on.marked;
+        y = on.y;
+      },
+)
 
 -- ---- the instrument
 
@@ -292,19 +330,19 @@ two_bytes entry entries false e begun = (
 
 -- behind the pointer
 abbrev pub pointer_tree : Tree
-pointer_tree = rest_of RUNNING_ON take_tree
+pointer_tree = behind (behind take_tree)
 
 pub begin_leads : (r : Reader) (s : Playing) (place : ℕ) (bytes : List ℕ) (rows : List Row) (ways : Ways)
     (d : VoiceDesk) → PatternAt r place bytes → (at : AtFetch r s place bytes rows d) →
     ((m : VoiceDesk) → AtKind r s d place bytes at.entries.entry (text_of at.entries.others) m →
     Leads r (rest_of OLD take_tree) ways m) →
     Leads r take_tree ways d
-begin_leads r s place bytes rows ways d ground at goes = (
-  λ held. running (record d { shared = put d.shared KEPT_PARAM d.y }) refl (marks r s d d d.y _ refl refl at.around)
-      at.y
-      (λ held. at.y),
-  λ out. running d refl at.around at.y (λ held. absurd (both_ways (r.layout.holds SKIP_FIRST) out held)),
-)
+begin_leads r s place bytes rows ways d ground at goes =
+    goes_on true r (first_of take_tree) (behind take_tree) (AtMarked r s d) ways d
+    (mark_leads r s place bytes rows ways d at few)
+    (λ m marked.
+    goes_on true r (first_of (behind take_tree)) pointer_tree (AtRunning r s d) ways m
+    (row_leads r s place bytes rows ways d m at few marked) pointed_leads)
   where
     entry : Entry
     entry = at.entries.entry
@@ -362,10 +400,3 @@ begin_leads r s place bytes rows ways d ground at goes = (
               (record { a = reads.is; before = subst (IsBefore bytes first.others) (sym on.y) here.1 }))
               goes,
         )
-
-    running : (m : VoiceDesk) → m.own ≡ d.own → Around r s d m → m.y ≡ d.own OFFSET →
-        (r.layout.holds SKIP_FIRST ≡ true → m.shared KEPT_PARAM ≡ d.own OFFSET) →
-        Leads r (ThenTree (ScopeTree RUNNING_ON (body_of RUNNING_ON take_tree)) pointer_tree) ways m
-    running m own around y marked =
-        joined true r RUNNING_ON (body_of RUNNING_ON take_tree) pointer_tree (AtRunning r s d) ways m
-        (running_on_leads r s place bytes rows ways d m at few own around y marked) pointed_leads

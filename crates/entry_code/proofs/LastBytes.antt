@@ -210,7 +210,11 @@ last_note_leads r s d place bytes left transpose v note ways m from to gate at =
           carry = c ∙ sym (ap not (keys note key));
         }
 
--- the lines behind the first of some
+-- the first line of some, and the lines behind it
+abbrev pub first_of : Tree → Tree
+first_of (ThenTree first rest) = first
+first_of tree = NeverTree
+
 abbrev pub behind : Tree → Tree
 behind (ThenTree first rest) = rest
 behind tree = NeverTree

@@ -66,7 +66,7 @@ abbrev number_tree : Tree
 number_tree = behind (behind (behind (body_of UNNAMED take_tree)))
 
 abbrev param_tree : Tree
-param_tree = behind (behind (behind (behind number_tree)))
+param_tree = behind (behind (behind number_tree))
 
 -- the command stands, where it is kept, and Y is its second byte; the carry stays
 command_leads : (r : Reader) (s : Playing) (d : VoiceDesk) (place : ℕ) (bytes left : List ℕ) (instrument : ℕ)
@@ -105,22 +105,20 @@ command_leads r s d place bytes left instrument running command other ways m gro
         let read = at_pointer r n.low n.high place ((n.y + 1) % 256) command.param halves (rw y_next next.reads) in
         let there : VoiceDesk =
         loaded (r.before ((n.low + 256 * n.high + (n.y + 1) % 256) % 65536)) (indexed ((n.y + 1) % 256) n) in
-        let is_before : IsBefore bytes (other ∷ left) there.y = rw y_next next.before in (
-          read.found,
-          (
-            λ kept.
-                let param : r.layout.holds ROW_COMMAND ≡ true → command.number ≢ 0 → there.a ≡ command.param =
+        let is_before : IsBefore bytes (other ∷ left) ((n.y + 1) % 256) = rw y_next next.before in (
+          λ kept. (
+            read.found,
+            let param : r.layout.holds ROW_COMMAND ≡ true → command.number ≢ 0 → there.a ≡ command.param =
                 λ on some. read.is in
                 goes (record there { own = put n.own NEW_PARAM there.a }) c
-                (takes r s d place _ _ 0 0 m _ shared sid low high (assumption (param, fields)) rest_is
-                (assumption play) at) is_before,
-            λ out.
-                let none : r.layout.holds ROW_COMMAND ≡ true → command.number ≢ 0 → n.own NEW_PARAM ≡ command.param =
-                λ on some. absurd (both_ways (r.layout.holds ROW_COMMAND) out on) in
-                goes there c
-                (takes r s d place _ _ 0 0 m _ shared sid low high (assumption (none, fields)) rest_is play at)
+                (takes r s d place _ _ 0 0 m _ shared sid low high (assumption (param, fields)) rest_is (assumption play) at)
                 is_before,
           ),
+          λ out.
+              let none : r.layout.holds ROW_COMMAND ≡ true → command.number ≢ 0 → n.own NEW_PARAM ≡ command.param =
+              λ on some. absurd (both_ways (r.layout.holds ROW_COMMAND) out on) in
+              goes (indexed ((n.y + 1) % 256) n) c
+              (takes r s d place _ _ 0 0 m _ shared sid low high (assumption (none, fields)) rest_is play at) is_before,
         )
 
 -- where the scope's lines lead

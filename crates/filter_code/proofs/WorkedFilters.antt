@@ -20,17 +20,24 @@ use Rattle.filter_code.specs.WorkedFilters.{site_with, site, bare, row_at, look,
 use Rattle.filter_code.specs.WorkedFilters.{FiltersAreWorked, RowsAreWorked, RunsAreRefused}
 use Rattle.filter_code.specs.WorkedFilters.{right, behind_with, Accepts}
 use Rattle.filter_code.proofs.Stepping.{filter_block_steps}
+use Rattle.player_memory.proofs.Laws.{InOnePiece, in_one_piece, off_piece, list_behind}
+use Rattle.player_memory.specs.declared.labels.TheConstants.{SLIDES_LOW, SLIDES_HIGH}
 
 -- ---- the site
 
+piece : (holds : ℕ → Bool) → InOnePiece (site_with holds) 0x1000
+piece holds = record {
+  from = omega arith;
+  to = omega arith;
+  each = λ label few. (let e = lt-ltb label 113 few in rw e refl);
+}
+
 room : (holds : ℕ → Bool) → IsRoom (site_with holds) 2
 room holds = record {
-  begins = omega arith;
-  ends = omega arith;
-  variables = λ label few. (let e = lt-ltb label 113 few in rw e refl);
+  variables = in_one_piece (site_with holds) 0x1000 (piece holds);
   slides = λ kept. record {
-    low = record { from = omega arith; to = omega arith; outside = inr (omega arith) };
-    high = record { from = omega arith; to = omega arith; outside = inr (omega arith) };
+    low = list_behind (site_with holds) 0x1000 (piece holds) SLIDES_LOW 2 (omega arith) (omega arith) (omega arith);
+    high = list_behind (site_with holds) 0x1000 (piece holds) SLIDES_HIGH 2 (omega arith) (omega arith) (omega arith);
     apart = inl (omega arith);
   };
   pointer_low = omega arith;
@@ -47,7 +54,7 @@ uses holds = record {
 
 away : (holds : ℕ → Bool) (place : ℕ) → 0x1300 ≤ place → place < 0xD000 → IsElsewhere (site_with holds) 2 place
 away holds place from to = record {
-  variables = inr (omega (arith, from));
+  variables = off_piece (site_with holds) 0x1000 (piece holds) place (inr (omega (arith, from)));
   slides_low = λ kept. inr (omega (arith, from));
   slides_high = λ kept. inr (omega (arith, from));
   low = λ e. omega (arith, from, e);
@@ -259,7 +266,7 @@ elsewhere_at : (place : ℕ) → (place < 0x1000) ⊎ (0x1071 ≤ place) → (pl
     (place < 0x1280) ⊎ (0x1282 ≤ place) → place ≢ 0xFB → place ≢ 0xFC → (place < 0xD400) ⊎ (0xD419 ≤ place) →
     IsElsewhere (site false) 2 place
 elsewhere_at place variables low high pointer next registers = record {
-  variables = variables;
+  variables = off_piece (site false) 0x1000 (piece (site false).holds) place variables;
   slides_low = λ holds. low;
   slides_high = λ holds. high;
   low = pointer;

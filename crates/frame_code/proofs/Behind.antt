@@ -38,9 +38,7 @@ pub record Behind (layout : Layout) (packed : PackedSong) (k : ℕ) (start : ℕ
 variables_off : (layout : Layout) (rows : ℕ) (one two : ℕ → ℕ) → IsRoom layout rows → StackAlone one two →
     SameVariables layout one two
 variables_off layout rows one two room same label below =
-    let is : layout.address label ≡ layout.address 0 + label = room.variables label below in
-    let from : 0x0800 ≤ layout.address 0 = room.begins in
-    same (layout.address label) (inr (omega (arith, is, from)))
+    same (layout.address label) (inr (room.variables.from label below))
 
 -- another byte on the stack, and it has come to the same
 pub stacked : (layout : Layout) (packed : PackedSong) (k : ℕ) (start : ℕ → ℕ) (sounds : ℕ → ℕ) (count : ℕ)

@@ -5,4 +5,4 @@ pub use Rattle.frame_code.proofs.Frames.{frames_play}
 -- a memory that is the same where the code may read holds the same lists, and the same state
 pub use Rattle.frame_code.proofs.Moving.{lists_where_read, holds_where_read}
 -- the beginning of a subtune, as a call of its entrance
-pub use Rattle.frame_code.proofs.Beginning.{beginnings_start, begun_holds}
+pub use Rattle.frame_code.proofs.Beginning.{beginnings_start, begun_holds, lists_at}

@@ -13,24 +13,31 @@ use Rattle.scopes.specs.Meaning.{Done, Ran}
 use Rattle.scope_calls.specs.Entrances.{Entrance}
 use Rattle.scope_calls.specs.Meaning.{entrance_ran}
 use Rattle.player_memory.specs.declared.conditions.TheConstants.{TIMED}
-use Rattle.player_memory.specs.declared.labels.TheConstants.{LENT}
-use Rattle.player_memory.specs.SongLists.{HasSongLists, slide_rows}
+use Rattle.player_memory.specs.declared.labels.TheConstants.{FIRST_VARIABLE}
+use Rattle.player_memory.specs.Playing.{place_in}
+use Rattle.player_memory.specs.SongLists.{SongList, IsSongList, HasNumber, HasSongLists, list_label, slide_rows}
 use Rattle.player_memory.specs.Holds.{Holds, IsPlayerLayout}
 use Rattle.player_text.specs.declared.texts.Start.{Start}
 use Rattle.player_text.specs.Texts.{init_tree}
-use Rattle.init_code.specs.InitBlock.{IsUntouched, MaySetTimer}
+use Rattle.init_code.specs.InitBlock.{IsOutOf, IsUntouched, MayClear, MaySetTimer}
 use Rattle.kept_lines.specs.Starts.{start_of}
 
 -- ---- the entrance
 
--- a beginning: no voice is called, and the number of the subtune is stored where a command is said to be lent, which
--- the block clears
-pub record BeginsSubtunes (e : Entrance) (start : Start) : Type 0 where
-  pub first : e.first ≡ init_tree start
+-- a beginning, where the variables take so many bytes: no voice is called, and the number of the subtune is stored in
+-- the first of them, which the block clears
+pub record BeginsSubtunes (e : Entrance) (start : Start) (variables : ℕ) : Type 0 where
+  pub first : e.first ≡ init_tree start variables
   pub voice : e.voice ≡ None
-  pub stored : e.stored ≡ Some LENT
+  pub stored : e.stored ≡ Some FIRST_VARIABLE
 
 -- ---- what it stands on
+
+-- each variable is cleared or is 0, and no byte of a list is cleared
+pub record ClearsVariables (layout : Layout) (packed : PackedSong) (variables : ℕ) (at : ℕ → ℕ) : Type 0 where
+  pub clears : MayClear layout (slide_rows packed) variables at
+  pub lists : (list : SongList) (number : ℕ) → IsSongList layout packed list → HasNumber packed list number →
+      IsOutOf (layout.address FIRST_VARIABLE) variables (place_in layout (list_label list) number)
 
 -- where the timer is set the blocks read neither of its places, so none of the lists stands there
 abbrev pub ReadsOffTimer : Layout → Type 0
@@ -48,19 +55,20 @@ pub record IsCalledWith (packed : PackedSong) (k : ℕ) (desk : Desk) : Type 0 w
 
 -- The call has come to its end: memory holds the start state, and the 25 registers are 0. The timer has its value where
 -- it is set, and what it had where it isn't. What is elsewhere is as before.
-pub record BeginsSubtune (layout : Layout) (packed : PackedSong) (o : Options) (k : ℕ) (before : Desk) (run : Ran)
-    : Type 0 where
+pub record BeginsSubtune (layout : Layout) (packed : PackedSong) (o : Options) (k variables : ℕ) (before : Desk)
+    (run : Ran) : Type 0 where
   pub ends : run.outcome ≡ Done
   pub holds : Holds layout packed k (start_state o) run.desk.at
   pub registers : (register : ℕ) → register < 25 → run.desk.at (0xD400 + register) ≡ 0
   pub timer_low : run.desk.at 0xDC04 ≡ (if layout.holds TIMED then (start_of o).timer_low else before.at 0xDC04)
   pub timer_high : run.desk.at 0xDC05 ≡ (if layout.holds TIMED then (start_of o).timer_high else before.at 0xDC05)
-  pub elsewhere : (place : ℕ) → IsUntouched layout (slide_rows packed) place → run.desk.at place ≡ before.at place
+  pub elsewhere : (place : ℕ) → IsUntouched layout (slide_rows packed) variables place → run.desk.at place ≡ before.at place
 
--- In any memory that has the song's lists, the call begins the subtune.
+-- In any memory that has the song's lists, and whose variables it clears, the call begins the subtune.
 abbrev pub BeginningsStart : Type 0
 BeginningsStart =
-    (layout : Layout) (packed : PackedSong) (o : Options) (k : ℕ) (e : Entrance) (desk : Desk) →
-    BeginsSubtunes e (start_of o) → IsPlayerLayout layout packed → MaySetTimer layout → ReadsOffTimer layout →
-    IsCalledWith packed k desk → HasSongLists layout packed desk.at →
-    BeginsSubtune layout packed o k desk (entrance_ran layout e desk)
+    (layout : Layout) (packed : PackedSong) (o : Options) (k variables : ℕ) (e : Entrance) (desk : Desk) →
+    BeginsSubtunes e (start_of o) variables → IsPlayerLayout layout packed → MaySetTimer layout →
+    ReadsOffTimer layout → ClearsVariables layout packed variables desk.at → IsCalledWith packed k desk →
+    HasSongLists layout packed desk.at →
+    BeginsSubtune layout packed o k variables desk (entrance_ran layout e desk)

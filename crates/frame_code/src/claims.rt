@@ -10,8 +10,9 @@ pub fn frames_play()
     ensures { FramesPlay }
 {}
 
-/// In any memory that has a packed song's lists, the call of a beginning with the number of a subtune comes to its end
-/// with the start state in memory and the 25 registers 0; it sets the timer where that is kept, and leaves all else.
+/// In any memory that has a packed song's lists, and 0 in each variable that isn't cleared, the call of a beginning with
+/// the number of a subtune comes to its end with the start state in memory and the 25 registers 0; it sets the timer
+/// where that is kept, and leaves all else.
 pub fn beginnings_start()
     ensures { BeginningsStart }
 {}

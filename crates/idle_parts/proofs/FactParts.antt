@@ -1,7 +1,7 @@
 -- Where the parts that a song's facts keep do nothing.
 use Rattle.std.proofs.Common.{◌≡◌, ◌≢◌, ℕ, ◌+◌, ◌*◌, ◌%◌, ◌<◌, ◌≤◌, [], ◌∷◌, Bool, true, false, nat_eq, nat_le}
 use Rattle.std.proofs.Common.{if◌then◌else◌}
-use Rattle.std.proofs.Common.{bit_xor, refl, sym, ap, ◌∙◌, inl, inr, lit<, arith}
+use Rattle.std.proofs.Common.{bit_xor, refl, sym, ap, ◌∙◌, inl, inr, arith}
 use Rattle.std.proofs.lemmas.Bool.{le-leb, lt-leb, le-ltb, ne_eqb, agree_below_at}
 use Rattle.std.proofs.lemmas.Bool.Decides.{eqb_tells}
 use Rattle.play_model.specs.State.{Playing}
@@ -46,8 +46,8 @@ held_idles : {layout : Layout} {rows voice : ℕ} {s : Playing} {desk : Desk} �
     (timer : ℕ) → IsListed layout rows desk.at GATE_TIMERS s.voice.instrument timer → timer < 0x40 → (k : Bool) →
     layout.holds LEGATO ≡ k → Idles layout (part HELD_NOTE 0 GATE_CLOSED.now) desk []
 held_idles {s = s} h timer listed low true kept =
-    let sees = own_sees h INSTRUMENT (lit< tt) in
-    let is = own_is h INSTRUMENT s.voice.instrument (lit< tt) (own_bytes h).instrument in
+    let sees = own_sees h INSTRUMENT refl in
+    let is = own_is h INSTRUMENT s.voice.instrument refl (own_bytes h).instrument in
     let sees_timer = listed.reads in
     let is_timer = listed.is in
     let n = plain_timer timer low in
@@ -59,8 +59,8 @@ held_idles {s = s} h timer listed low true kept =
       kept_are = tt;
     }
 held_idles {s = s} h timer listed low false kept =
-    let sees = own_sees h INSTRUMENT (lit< tt) in
-    let is = own_is h INSTRUMENT s.voice.instrument (lit< tt) (own_bytes h).instrument in
+    let sees = own_sees h INSTRUMENT refl in
+    let is = own_is h INSTRUMENT s.voice.instrument refl (own_bytes h).instrument in
     let sees_timer = listed.reads in
     record {
       ends = rw (sees, is, sees_timer, kept) refl;
@@ -74,16 +74,16 @@ held_plain : {layout : Layout} {rows voice : ℕ} {s : Playing} {desk : Desk} �
     (timer : ℕ) → IsListed layout rows desk.at GATE_TIMERS s.voice.instrument timer → timer < 0x40 → (k : Bool) →
     layout.holds LEGATO ≡ k → (ran each_one layout (part HELD_NOTE 0 GATE_CLOSED.now) desk).desk.cpu.c ≡ false
 held_plain {s = s} h timer listed low true kept =
-    let sees = own_sees h INSTRUMENT (lit< tt) in
-    let is = own_is h INSTRUMENT s.voice.instrument (lit< tt) (own_bytes h).instrument in
+    let sees = own_sees h INSTRUMENT refl in
+    let is = own_is h INSTRUMENT s.voice.instrument refl (own_bytes h).instrument in
     let sees_timer = listed.reads in
     let is_timer = listed.is in
     let n = plain_timer timer low in
     let c : nat_le 128 timer ≡ false = lt-leb 128 timer (omega (arith, low)) in
     rw (sees, is, sees_timer, is_timer, kept, n, c) refl
 held_plain {s = s} h timer listed low false kept =
-    let sees = own_sees h INSTRUMENT (lit< tt) in
-    let is = own_is h INSTRUMENT s.voice.instrument (lit< tt) (own_bytes h).instrument in
+    let sees = own_sees h INSTRUMENT refl in
+    let is = own_is h INSTRUMENT s.voice.instrument refl (own_bytes h).instrument in
     let sees_timer = listed.reads in
     let is_timer = listed.is in
     let c : nat_le 128 timer ≡ false = lt-leb 128 timer (omega (arith, low)) in
@@ -105,8 +105,8 @@ delay_idles : {layout : Layout} {rows voice : ℕ} {s : Playing} {desk : Desk} �
 delay_idles {layout} {s = s} {desk} h kept listed none =
     let sees = listed.reads in
     let is = listed.is in
-    let writes = own_writes h VIB_DELAY (lit< tt) in
-    let its = own_is h VIB_DELAY 255 (lit< tt) ((own_bytes h).vib_delay kept ∙ ap (λ n. (n + 255) % 256) none) in
+    let writes = own_writes h VIB_DELAY refl in
+    let its = own_is h VIB_DELAY 255 refl ((own_bytes h).vib_delay kept ∙ ap (λ n. (n + 255) % 256) none) in
     let here : ℕ = (layout.address VIB_DELAY + desk.cpu.x) % 65536 in
     record {
       ends = rw (sees, is, writes) refl;
@@ -120,8 +120,8 @@ pub facts_idle : {layout : Layout} {rows voice : ℕ} {s : Playing} {desk : Desk
     HoldsVoice layout rows voice s desk → FactsIdle layout rows voice s desk
 facts_idle {layout} {rows} {voice} {s} {desk} h = record {
   tone = λ row small other. (
-      let sees = own_sees h NEW_COMMAND (lit< tt) in
-      let is = own_is h NEW_COMMAND s.voice.new_command (lit< tt) ((own_bytes h).new_command row) in
+      let sees = own_sees h NEW_COMMAND refl in
+      let is = own_is h NEW_COMMAND s.voice.new_command refl ((own_bytes h).new_command row) in
       let z = other_turned s.voice.new_command small other in
       record {
         ends = rw (sees, is, z) refl;
@@ -131,8 +131,8 @@ facts_idle {layout} {rows} {voice} {s} {desk} h = record {
         kept_are = rw (sees, is, z) (refl, tt);
       });
   tone_next = λ row small other. (
-      let sees = own_sees h NEW_COMMAND (lit< tt) in
-      let is = own_is h NEW_COMMAND s.voice.new_command (lit< tt) ((own_bytes h).new_command row) in
+      let sees = own_sees h NEW_COMMAND refl in
+      let is = own_is h NEW_COMMAND s.voice.new_command refl ((own_bytes h).new_command row) in
       let z = other_compared s.voice.new_command small other in
       record {
         ends = rw (sees, is, z) refl;
@@ -248,30 +248,30 @@ pub rows_leave : {layout : Layout} {rows voice : ℕ} {s : Playing} {desk : Desk
     HoldsVoice layout rows voice s desk → RowsLeave layout rows voice s desk
 rows_leave {layout} {rows} {voice} {s} {desk} h = record {
   bare = λ row none. (
-      let sees = own_sees h NEW_COMMAND (lit< tt) in
-      let is = own_is h NEW_COMMAND 0 (lit< tt) ((own_bytes h).new_command row ∙ none) in
+      let sees = own_sees h NEW_COMMAND refl in
+      let is = own_is h NEW_COMMAND 0 refl ((own_bytes h).new_command row ∙ none) in
       rw (sees, is) refl);
   none = λ row none. (
-      let sees = own_sees h NEW_COMMAND (lit< tt) in
-      let is = own_is h NEW_COMMAND 0 (lit< tt) ((own_bytes h).new_command row ∙ none) in
+      let sees = own_sees h NEW_COMMAND refl in
+      let is = own_is h NEW_COMMAND 0 refl ((own_bytes h).new_command row ∙ none) in
       rw (sees, is) refl);
   once = λ row kept high. (
-      let sees = own_sees h NEW_COMMAND (lit< tt) in
-      let is = own_is h NEW_COMMAND s.voice.new_command (lit< tt) ((own_bytes h).new_command row) in
+      let sees = own_sees h NEW_COMMAND refl in
+      let is = own_is h NEW_COMMAND s.voice.new_command refl ((own_bytes h).new_command row) in
       let z = ne_eqb s.voice.new_command 0 (λ e. absurd (omega (arith, high, e))) in
       let c : nat_le 5 s.voice.new_command ≡ true = le-leb 5 s.voice.new_command high in
       rw (sees, is, z, kept, c) refl);
   waveform = λ left some listed low. (
-      let sees = own_sees h WAVE_POINTER (lit< tt) in
-      let is = own_is h WAVE_POINTER s.voice.wave_ptr (lit< tt) (own_bytes h).wave_pointer in
+      let sees = own_sees h WAVE_POINTER refl in
+      let is = own_is h WAVE_POINTER s.voice.wave_ptr refl (own_bytes h).wave_pointer in
       let z = ne_eqb s.voice.wave_ptr 0 some in
       let sees_left = listed.reads in
       let is_left = listed.is in
       let c : nat_le 0xE0 left ≡ false = lt-leb 0xE0 left low in
       rw (sees, is, z, sees_left, is_left, c) refl);
   command = λ kept left some listed high. (
-      let sees = own_sees h WAVE_POINTER (lit< tt) in
-      let is = own_is h WAVE_POINTER s.voice.wave_ptr (lit< tt) (own_bytes h).wave_pointer in
+      let sees = own_sees h WAVE_POINTER refl in
+      let is = own_is h WAVE_POINTER s.voice.wave_ptr refl (own_bytes h).wave_pointer in
       let z = ne_eqb s.voice.wave_ptr 0 some in
       let sees_left = listed.reads in
       let is_left = listed.is ∙ stored_command left high in
@@ -321,27 +321,27 @@ bare_settles : {layout : Layout} {rows voice : ℕ} {s : Playing} {desk : Desk} 
     layout.holds ROW_COMMAND ≡ k → (e : Bool) → layout.holds EFFECTS ≡ e → (v : Bool) → layout.holds NOTE_VIBRATO ≡ v →
     Settles layout settled desk
 bare_settles h none vibrato true told true kept true reads =
-    let sees = own_sees h NEW_COMMAND (lit< tt) in
-    let is = own_is h NEW_COMMAND 0 (lit< tt) ((own_bytes h).new_command told ∙ none) in
-    let command = own_writes h COMMAND (lit< tt) in
+    let sees = own_sees h NEW_COMMAND refl in
+    let is = own_is h NEW_COMMAND 0 refl ((own_bytes h).new_command told ∙ none) in
+    let command = own_writes h COMMAND refl in
     record {
       ends = rw (told, sees, is, kept, command, reads, vibrato) refl;
       x = rw (told, sees, is, kept, command, reads, vibrato) refl;
     }
 bare_settles h none vibrato true told true kept false reads =
-    let sees = own_sees h NEW_COMMAND (lit< tt) in
-    let is = own_is h NEW_COMMAND 0 (lit< tt) ((own_bytes h).new_command told ∙ none) in
-    let command = own_writes h COMMAND (lit< tt) in
+    let sees = own_sees h NEW_COMMAND refl in
+    let is = own_is h NEW_COMMAND 0 refl ((own_bytes h).new_command told ∙ none) in
+    let command = own_writes h COMMAND refl in
     record { ends = rw (told, sees, is, kept, command, reads) refl; x = rw (told, sees, is, kept, command, reads) refl }
 bare_settles h none vibrato true told false kept v reads =
-    let sees = own_sees h NEW_COMMAND (lit< tt) in
-    let is = own_is h NEW_COMMAND 0 (lit< tt) ((own_bytes h).new_command told ∙ none) in
+    let sees = own_sees h NEW_COMMAND refl in
+    let is = own_is h NEW_COMMAND 0 refl ((own_bytes h).new_command told ∙ none) in
     record { ends = rw (told, sees, is, kept) refl; x = rw (told, sees, is, kept) refl }
 bare_settles h none vibrato false told true kept true reads =
-    let command = own_writes h COMMAND (lit< tt) in
+    let command = own_writes h COMMAND refl in
     record { ends = rw (told, kept, command, reads, vibrato) refl; x = rw (told, kept, command, reads, vibrato) refl }
 bare_settles h none vibrato false told true kept false reads =
-    let command = own_writes h COMMAND (lit< tt) in
+    let command = own_writes h COMMAND refl in
     record { ends = rw (told, kept, command, reads) refl; x = rw (told, kept, command, reads) refl }
 bare_settles h none vibrato false told false kept v reads =
     record { ends = rw (told, kept) refl; x = rw (told, kept) refl }
@@ -360,7 +360,7 @@ settling slide rest =
     (WhenTree ROW_ONCE
     (ThenTree (WithTree Cmp (Number 5)) (ThenTree (LeaveIfTree ONCE (On CarryFlag)) NoneTree)))
     (ThenTree (WhenTree ROW_SLIDE slide) NoneTree))))
-    (ThenTree (WithTree Lda (Number 0)) NoneTree))
+    (ThenTree (WhenTree EFFECTS (ThenTree (WithTree Lda (Number 0)) NoneTree)) NoneTree))
     NoneTree))
     rest)
 
@@ -413,15 +413,15 @@ running_settles layout slide desk command sees is c s =
 running_ends : {layout : Layout} {rows voice : ℕ} {s : Playing} {desk : Desk} → HoldsVoice layout rows voice s desk →
     RunningKept layout s.voice.new_command → Settles layout settled desk
 running_ends {layout} {s = s} {desk} h c =
-    let sees = own_sees h NEW_COMMAND (lit< tt) in
-    let is = own_is h NEW_COMMAND s.voice.new_command (lit< tt) ((own_bytes h).new_command c.told) in
+    let sees = own_sees h NEW_COMMAND refl in
+    let is = own_is h NEW_COMMAND s.voice.new_command refl ((own_bytes h).new_command c.told) in
     let told = row_told layout desk in
     let command : layout.may_write ((layout.address COMMAND + told.cpu.x) % 65536) ≡ true =
-    rw (row_told, sees) (own_writes h COMMAND (lit< tt)) in
+    rw (row_told, sees) (own_writes h COMMAND refl) in
     let time : layout.may_write ((layout.address VIB_TIME + told.cpu.x) % 65536) ≡ true =
-    rw (row_told, sees) (own_writes h VIB_TIME (lit< tt)) in
+    rw (row_told, sees) (own_writes h VIB_TIME refl) in
     let param : layout.may_read ((layout.address NEW_PARAM + told.cpu.x) % 65536) ≡ true =
-    rw (row_told, sees) (own_sees h NEW_PARAM (lit< tt)) in
+    rw (row_told, sees) (own_sees h NEW_PARAM refl) in
     running_settles layout (part ROW_SLIDE 0 COMMAND_BEGUN.now) desk s.voice.new_command sees is c
     (row_slides layout (row_told layout desk) command time param _ refl _ refl)
 
@@ -430,12 +430,12 @@ pub rows_end : {layout : Layout} {rows voice : ℕ} {s : Playing} {desk : Desk} 
 rows_end {layout} {s = s} {desk} h = record {
   bare = λ once none vibrato listed.
       row_ends layout settled desk (bare_settles h none listed.reads _ refl _ refl _ refl) once
-      (own_writes h PARAM (lit< tt)) _ refl;
+      (own_writes h PARAM refl) _ refl;
   running = λ once told slide some low. row_ends layout settled desk (running_ends h (record {
     once = once;
     told = told;
     slide = slide;
     some = ne_eqb s.voice.new_command 0 (λ e. absurd (omega (arith, some, e)));
     low = lt-leb 5 s.voice.new_command low;
-  })) once (own_writes h PARAM (lit< tt)) _ refl;
+  })) once (own_writes h PARAM refl) _ refl;
 }

@@ -1,6 +1,6 @@
 -- What the lines in front of the parts find.
 use Rattle.std.proofs.Common.{◌≡◌, ◌≢◌, ℕ, ◌+◌, ◌-◌, ◌<◌, ◌⊎◌, Bool, true, false, ◌&&◌}
-use Rattle.std.proofs.Common.{if◌then◌else◌, nat_eq, nat_le, refl, ◌∙◌, inl, inr, lit<, arith}
+use Rattle.std.proofs.Common.{if◌then◌else◌, nat_eq, nat_le, refl, ◌∙◌, inl, inr, arith}
 use Rattle.std.proofs.lemmas.Bool.{le-leb, lt-leb, lt-ltb, le-ltb, ne_eqb, eq-eqb, cases_lt}
 use Rattle.std.specs.Int.Bits.{bit_and}
 use Rattle.std.proofs.lemmas.Grind.{and_numeral}
@@ -20,18 +20,18 @@ pub fronts_end : {layout : Layout} {rows voice : ℕ} {s : Playing} {desk : Desk
     HoldsVoice layout rows voice s desk → FrontsEnd layout rows voice s desk
 fronts_end {layout} {rows} {voice} {s} {desk} h = record {
   tempo = λ over. (
-      let sees = own_sees h TICK (lit< tt) in
-      let is = own_is h TICK 0 (lit< tt) ((own_bytes h).tick ∙ over) in
-      let writes = own_writes h TICK (lit< tt) in
-      let sees_tempo = own_sees h 89 (lit< tt) in
+      let sees = own_sees h TICK refl in
+      let is = own_is h TICK 0 refl ((own_bytes h).tick ∙ over) in
+      let writes = own_writes h TICK refl in
+      let sees_tempo = own_sees h 89 refl in
       rw (sees, is, writes, sees_tempo) refl);
   vibrato = λ kept none. (
-      let sees = own_sees h COMMAND (lit< tt) in
-      let is = own_is h COMMAND 0 (lit< tt) ((own_bytes h).command kept ∙ none) in
+      let sees = own_sees h COMMAND refl in
+      let is = own_is h COMMAND 0 refl ((own_bytes h).command kept ∙ none) in
       rw (sees, is) refl);
   command = λ left some listed high. (
-      let sees = own_sees h WAVE_POINTER (lit< tt) in
-      let is = own_is h WAVE_POINTER s.voice.wave_ptr (lit< tt) (own_bytes h).wave_pointer in
+      let sees = own_sees h WAVE_POINTER refl in
+      let is = own_is h WAVE_POINTER s.voice.wave_ptr refl (own_bytes h).wave_pointer in
       let z = ne_eqb s.voice.wave_ptr 0 some in
       let sees_left = listed.reads in
       let is_left = listed.is in
@@ -52,10 +52,10 @@ stored_is_low left low = elim (cases_lt left 0x10) [
 pub commands_are_found : CommandsAreFound
 commands_are_found layout rows voice s desk h row kept high =
     let some : s.voice.new_command ≢ 0 = λ e. absurd (omega (arith, high, e)) in
-    let sees = own_sees h NEW_COMMAND (lit< tt) in
-    let is = own_is h NEW_COMMAND s.voice.new_command (lit< tt) ((own_bytes h).new_command row) in
-    let sees_param = own_sees h NEW_PARAM (lit< tt) in
-    let is_param = own_is h NEW_PARAM s.voice.new_param (lit< tt) ((own_bytes h).new_param row some) in
+    let sees = own_sees h NEW_COMMAND refl in
+    let is = own_is h NEW_COMMAND s.voice.new_command refl ((own_bytes h).new_command row) in
+    let sees_param = own_sees h NEW_PARAM refl in
+    let is_param = own_is h NEW_PARAM s.voice.new_param refl ((own_bytes h).new_param row some) in
     let z = ne_eqb s.voice.new_command 0 some in
     let c : nat_le 5 s.voice.new_command ≡ true = le-leb 5 s.voice.new_command high in
     record {
@@ -69,8 +69,8 @@ commands_are_found layout rows voice s desk h row kept high =
 
 pub effects_are_found : EffectsAreFound
 effects_are_found layout rows voice s desk h effects out =
-    let sees = own_sees h PARAM (lit< tt) in
-    let is = own_is h PARAM s.voice.param (lit< tt) ((own_bytes h).param effects) in
+    let sees = own_sees h PARAM refl in
+    let is = own_is h PARAM s.voice.param refl ((own_bytes h).param effects) in
     record {
       ends = rw (sees, out) refl;
       a_is = rw (sees, out) refl;

@@ -32,8 +32,8 @@ pub fetches_idle : {layout : Layout} {rows voice : ℕ} {s : Playing} {desk : De
     HoldsVoice layout rows voice s desk → FetchesIdle layout voice desk
 fetches_idle {layout} {rows} {voice} {s} {desk} h = record {
   note = λ none byte off. (
-      let sees = own_sees h TRANSPOSE (lit< tt) in
-      let is = own_is h TRANSPOSE 0 (lit< tt) none in
+      let sees = own_sees h TRANSPOSE refl in
+      let is = own_is h TRANSPOSE 0 refl none in
       let plain = h.at_voice.decimal in
       record {
         ends = rw (sees, is, plain) refl;
@@ -46,8 +46,8 @@ fetches_idle {layout} {rows} {voice} {s} {desk} h = record {
         );
       });
   play = λ none. (
-      let sees = own_sees h REPEAT (lit< tt) in
-      let is = own_is h REPEAT 0 (lit< tt) none in
+      let sees = own_sees h REPEAT refl in
+      let is = own_is h REPEAT 0 refl none in
       record {
         ends = rw (sees, is) refl;
         stays = λ place. rw (sees, is) refl;
@@ -135,8 +135,8 @@ vibrato_idles : {layout : Layout} {rows voice : ℕ} {s : Playing} {desk : Desk}
     (s.voice.param ≡ 0) ⊎ (s.voice.vib_delay ≡ 0) ⊎ ((layout.holds SKIP_EFFECTS ≡ true) × (s.voice.tick ≡ 0)) →
     Idles layout (part INSTRUMENT_VIBRATO 0 EFFECT_BEGUN.now) desk []
 vibrato_idles {layout} {rows} {voice} {s} {desk} h effects kept clear =
-    let sees = own_sees h PARAM (lit< tt) in
-    let is = own_is h PARAM s.voice.param (lit< tt) ((own_bytes h).param effects) in
+    let sees = own_sees h PARAM refl in
+    let is = own_is h PARAM s.voice.param refl ((own_bytes h).param effects) in
     elim (eqb_tells s.voice.param 0) [
       | inl bare ↦ (
           let z = bare.0 in
@@ -151,10 +151,10 @@ vibrato_idles {layout} {rows} {voice} {s} {desk} h effects kept clear =
         sees_param = sees;
         is_param = is;
         some = some.0;
-        sees_tick = own_sees h TICK (lit< tt);
-        is_tick = own_is h TICK s.voice.tick (lit< tt) (own_bytes h).tick;
-        sees_delay = own_sees h VIB_DELAY (lit< tt);
-        is_delay = own_is h VIB_DELAY ((s.voice.vib_delay + 255) % 256) (lit< tt) ((own_bytes h).vib_delay kept);
+        sees_tick = own_sees h TICK refl;
+        is_tick = own_is h TICK s.voice.tick refl (own_bytes h).tick;
+        sees_delay = own_sees h VIB_DELAY refl;
+        is_delay = own_is h VIB_DELAY ((s.voice.vib_delay + 255) % 256) refl ((own_bytes h).vib_delay kept);
       }) some.1 clear
     ]
 
@@ -162,8 +162,8 @@ pub effects_idle : {layout : Layout} {rows voice : ℕ} {s : Playing} {desk : De
     HoldsVoice layout rows voice s desk → EffectsIdle layout rows voice s desk
 effects_idle {layout} {rows} {voice} {s} {desk} h = record {
   vibrato = λ effects kept none came. (
-      let sees = own_sees h COMMAND (lit< tt) in
-      let is = own_is h COMMAND s.voice.command (lit< tt) ((own_bytes h).command effects) in
+      let sees = own_sees h COMMAND refl in
+      let is = own_is h COMMAND s.voice.command refl ((own_bytes h).command effects) in
       elim (eqb_tells s.voice.command 0) [
         | inl runs ↦ (
             let z = runs.0 in
@@ -179,13 +179,13 @@ effects_idle {layout} {rows} {voice} {s} {desk} h = record {
         | inr other ↦ (let z = other.0 in let bad = rw (sees, is, z) at came in absurd (cc))
       ]);
   speed = λ effects command left listed low runs a came. (
-      let sees = own_sees h PARAM (lit< tt) in
-      let is = own_is h PARAM s.voice.param (lit< tt) ((own_bytes h).param effects) in
+      let sees = own_sees h PARAM refl in
+      let is = own_is h PARAM s.voice.param refl ((own_bytes h).param effects) in
       let sees_row = listed.reads in
       let is_row = listed.is in
       let n : nat_le 128 left ≡ false = lt-leb 128 left low in
-      let sees_command = own_sees h COMMAND (lit< tt) in
-      let is_command = own_is h COMMAND s.voice.command (lit< tt) ((own_bytes h).command effects) in
+      let sees_command = own_sees h COMMAND refl in
+      let is_command = own_is h COMMAND s.voice.command refl ((own_bytes h).command effects) in
       elim runs [
         | inl some ↦ (
             let z = ne_eqb s.voice.command 0 some.0 in

@@ -11,5 +11,6 @@ mod PartPlaces
 mod LeftOut
 -- The lines of the bytes that are kept under a condition.
 mod KeptBytes
+mod KeptStores
 -- Where they do something.
 mod WorkedParts

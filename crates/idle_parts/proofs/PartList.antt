@@ -58,7 +58,7 @@ parts_are_these = record {
   effects = refl;
   filter_used = refl;
   the_filter_used = refl;
-  volume_begins = λ start. refl;
-  delay_begins = λ start. refl;
-  funk_begins = λ start. refl;
+  volume_begins = λ start variables. refl;
+  delay_begins = λ start variables. refl;
+  funk_begins = λ start variables. refl;
 }

@@ -1,5 +1,7 @@
 -- What a voice's bytes are on a desk at that voice, and that they may be read.
-use Rattle.std.proofs.Common.{◌≡◌, ◌≢◌, ℕ, ◌+◌, ◌*◌, ◌/◌, ◌%◌, ◌<◌, Bool, true, ◌∙◌, ap, arith}
+use Rattle.std.proofs.Common.{◌≡◌, ◌≢◌, ℕ, ◌+◌, ◌*◌, ◌/◌, ◌%◌, ◌<◌, Bool, true, nat_lt, ◌∙◌, ap, arith}
+use Rattle.std.proofs.lemmas.Bool.{ltb-true, and_parts}
+use Rattle.player_memory.specs.Labels.{is_own}
 use Rattle.play_model.specs.State.{Voice, Common, Playing}
 use Rattle.scopes.specs.Desk.{Desk, Layout}
 use Rattle.player_memory.specs.declared.conditions.TheConstants.{ROW_COMMAND, EFFECTS, INSTRUMENT_VIBRATO}
@@ -11,33 +13,36 @@ use Rattle.player_memory.specs.Variables.{CommonBytesStand}
 use Rattle.player_memory.specs.Playing.{own_at}
 use Rattle.idle_parts.specs.Idle.{HoldsVoice}
 
+own_few : {layout : Layout} {rows voice : ℕ} {s : Playing} {desk : Desk} → HoldsVoice layout rows voice s desk →
+    (label : ℕ) → is_own label ≡ true → label + 7 * voice < 113
+own_few h label own =
+    let few = h.few in
+    let small = ltb-true label 90 (and_parts (nat_lt label 90) (nat_lt (label % 21) 7) own).0 in
+    omega (arith, small, few)
+
 -- the place of a voice's byte
 pub own_place : {layout : Layout} {rows voice : ℕ} {s : Playing} {desk : Desk} → HoldsVoice layout rows voice s desk →
-    (label : ℕ) → label + 14 < 113 → (layout.address label + desk.cpu.x) % 65536 ≡ layout.address (label + 7 * voice)
-own_place {layout} {rows} {voice} h label few =
+    (label : ℕ) → is_own label ≡ true → (layout.address label + desk.cpu.x) % 65536 ≡ layout.address (label + 7 * voice)
+own_place {layout} {rows} {voice} h label own =
     let x = h.at_voice.x in
-    let three = h.few in
-    let one = h.room.variables label (omega (arith, few)) in
-    let its = h.room.variables (label + 7 * voice) (omega (arith, few, three)) in
-    let ends = h.room.ends in
-    omega (arith, x, three, few, one, its, ends)
+    let at = h.room.variables.voices label voice own h.few in
+    let ends = h.room.variables.to (label + 7 * voice) (own_few h label own) in
+    omega (arith, x, at, ends)
 
 pub own_sees : {layout : Layout} {rows voice : ℕ} {s : Playing} {desk : Desk} → HoldsVoice layout rows voice s desk →
-    (label : ℕ) → label + 14 < 113 → layout.may_read ((layout.address label + desk.cpu.x) % 65536) ≡ true
-own_sees {layout} {rows} {voice} h label few =
-    let three = h.few in
-    ap layout.may_read (own_place h label few) ∙ h.may.reads (label + 7 * voice) (omega (arith, few, three))
+    (label : ℕ) → is_own label ≡ true → layout.may_read ((layout.address label + desk.cpu.x) % 65536) ≡ true
+own_sees {layout} {rows} {voice} h label own =
+    ap layout.may_read (own_place h label own) ∙ h.may.reads (label + 7 * voice) (own_few h label own)
 
 pub own_writes : {layout : Layout} {rows voice : ℕ} {s : Playing} {desk : Desk} → HoldsVoice layout rows voice s desk →
-    (label : ℕ) → label + 14 < 113 → layout.may_write ((layout.address label + desk.cpu.x) % 65536) ≡ true
-own_writes {layout} {rows} {voice} h label few =
-    let three = h.few in
-    ap layout.may_write (own_place h label few) ∙ h.may.writes (label + 7 * voice) (omega (arith, few, three))
+    (label : ℕ) → is_own label ≡ true → layout.may_write ((layout.address label + desk.cpu.x) % 65536) ≡ true
+own_writes {layout} {rows} {voice} h label own =
+    ap layout.may_write (own_place h label own) ∙ h.may.writes (label + 7 * voice) (own_few h label own)
 
 pub own_is : {layout : Layout} {rows voice : ℕ} {s : Playing} {desk : Desk} → HoldsVoice layout rows voice s desk →
-    (label byte : ℕ) → label + 14 < 113 → own_at layout desk.at voice label ≡ byte →
+    (label byte : ℕ) → is_own label ≡ true → own_at layout desk.at voice label ≡ byte →
     desk.at ((layout.address label + desk.cpu.x) % 65536) ≡ byte
-own_is {layout} {desk = desk} h label byte few is = ap desk.at (own_place h label few) ∙ is
+own_is {layout} {desk = desk} h label byte own is = ap desk.at (own_place h label own) ∙ is
 
 -- ---- a voice's bytes, of those that parts look at
 

@@ -204,18 +204,19 @@ tempo_idles layout desk tick tempo r long false true zero minus came =
 
 pub tempos_idle : TemposIdle
 tempos_idle layout rows voice s desk h long came =
-    let three = h.few in
-    let its = h.room.variables (23 + 7 * voice) (omega (arith, three)) in
-    let own = h.room.variables (89 + 7 * voice) (omega (arith, three)) in
-    let tick_place = own_place h TICK (lit< tt) in
-    let tempo_place = own_place h TEMPO (lit< tt) in
+    let few = h.few in
+    let apart =
+    h.room.variables.apart (TICK + 7 * voice) (TEMPO + 7 * voice) (omega (arith, few)) (omega (arith, few)) in
+    let tick_place = own_place h TICK refl in
+    let tempo_place = own_place h TEMPO refl in
     tempo_idles layout desk s.voice.tick (tempo_of (voice + 1) s.common) (record {
-      sees = own_sees h TICK (lit< tt);
-      is = own_is h TICK s.voice.tick (lit< tt) (own_bytes h).tick;
-      writes = own_writes h TICK (lit< tt);
-      sees_tempo = own_sees h TEMPO (lit< tt);
-      is_tempo = own_is h TEMPO (tempo_of (voice + 1) s.common) (lit< tt) (h.plays.tempos voice h.few);
-      apart = ne_eqb _ _ (λ e. absurd (omega (arith, tick_place, tempo_place, its, own, e)));
+      sees = own_sees h TICK refl;
+      is = own_is h TICK s.voice.tick refl (own_bytes h).tick;
+      writes = own_writes h TICK refl;
+      sees_tempo = own_sees h TEMPO refl;
+      is_tempo = own_is h TEMPO (tempo_of (voice + 1) s.common) refl (h.plays.tempos voice h.few);
+      apart = ne_eqb _ _ (λ e.
+          (let same = apart (sym tick_place ∙ sym e ∙ tempo_place) in absurd (omega (arith, same))));
     }) long _ _ refl refl came
 
 -- behind a row's left side, where it isn't a waveform
@@ -243,8 +244,8 @@ pub programs_idle : (layout : Layout) (rows voice : ℕ) (s : Playing) (desk : D
     HoldsVoice layout rows voice s desk → ProgramsIdle layout rows voice s desk
 programs_idle layout rows voice s desk h = record {
   wave = λ none. (
-      let sees = own_sees h WAVE_POINTER (lit< tt) in
-      let is = own_is h WAVE_POINTER 0 (lit< tt) ((own_bytes h).wave_pointer ∙ none) in
+      let sees = own_sees h WAVE_POINTER refl in
+      let is = own_is h WAVE_POINTER 0 refl ((own_bytes h).wave_pointer ∙ none) in
       record {
         ends = rw (sees, is) refl;
         stays = λ place. rw (sees, is) refl;
@@ -253,8 +254,8 @@ programs_idle layout rows voice s desk h = record {
         kept_are = tt;
       });
   command = λ left listed low came. (
-      let sees = own_sees h WAVE_POINTER (lit< tt) in
-      let is = own_is h WAVE_POINTER s.voice.wave_ptr (lit< tt) (own_bytes h).wave_pointer in
+      let sees = own_sees h WAVE_POINTER refl in
+      let is = own_is h WAVE_POINTER s.voice.wave_ptr refl (own_bytes h).wave_pointer in
       wave_idles layout desk s.voice.wave_ptr left sees is listed.reads listed.is low _ _ refl refl came);
   row_done = λ left listed low off. (
       let sees = listed.reads in
@@ -268,8 +269,8 @@ programs_idle layout rows voice s desk h = record {
         kept_are = rw (sees, is, c) (refl, (sym off, tt));
       });
   pulse = λ none. (
-      let sees = own_sees h PULSE_POINTER (lit< tt) in
-      let is = own_is h PULSE_POINTER 0 (lit< tt) ((own_bytes h).pulse_pointer ∙ none) in
+      let sees = own_sees h PULSE_POINTER refl in
+      let is = own_is h PULSE_POINTER 0 refl ((own_bytes h).pulse_pointer ∙ none) in
       record {
         ends = rw (sees, is) refl;
         stays = λ place. rw (sees, is) refl;

@@ -13,7 +13,7 @@ use Rattle.player_text.specs.declared.tick.TheConstants.{NOTE_TAKEN}
 use Rattle.idle_parts.specs.Idle.{Carry, HoldsVoice, Idles, part}
 use Rattle.idle_parts.specs.WorkedParts.{PartsAreWorked}
 use Rattle.player_memory.specs.declared.labels.TheConstants.{AD, GATE, PULSE_POINTER, PULSE_TIME, NEW_COMMAND, VIB_DELAY}
-use Rattle.player_memory.specs.declared.labels.TheConstants.{TEMPO_THREE, WAVE_TIME}
+use Rattle.player_memory.specs.declared.labels.TheConstants.{TEMPO_THREE, WAVE_TIME, COMMAND, KEPT_PARAM}
 use Rattle.player_memory.specs.declared.labels.TheConstants.{FILTER_POINTER, FILTER_TIME}
 use Rattle.player_memory.specs.declared.labels.TheConstants.{NEW_NOTE, INSTRUMENT, GATE_TIMERS}
 use Rattle.player_memory.specs.Playing.{IsListed}
@@ -55,15 +55,15 @@ held_works : {layout : Layout} {rows voice : ℕ} {s : Playing} {desk : Desk} �
     desk.cpu.c ≡ false → IsListed layout rows desk.at GATE_TIMERS s.voice.instrument 0x80 → (k : Bool) →
     layout.holds LEGATO ≡ k → ¬ Idles layout (part HELD_NOTE 0 GATE_CLOSED.now) desk (Carry ∷ [])
 held_works {s = s} h off listed true kept i =
-    let sees = own_sees h INSTRUMENT (lit< tt) in
-    let is = own_is h INSTRUMENT s.voice.instrument (lit< tt) (own_bytes h).instrument in
+    let sees = own_sees h INSTRUMENT refl in
+    let is = own_is h INSTRUMENT s.voice.instrument refl (own_bytes h).instrument in
     let sees_timer = listed.reads in
     let is_timer = listed.is in
     let c = rw (sees, is, sees_timer, is_timer, kept, off) at i.kept_are.0 in
     absurd (cc)
 held_works {s = s} h off listed false kept i =
-    let sees = own_sees h INSTRUMENT (lit< tt) in
-    let is = own_is h INSTRUMENT s.voice.instrument (lit< tt) (own_bytes h).instrument in
+    let sees = own_sees h INSTRUMENT refl in
+    let is = own_is h INSTRUMENT s.voice.instrument refl (own_bytes h).instrument in
     let sees_timer = listed.reads in
     let is_timer = listed.is in
     let c = rw (sees, is, sees_timer, is_timer, kept, off) at i.kept_are.0 in
@@ -79,8 +79,8 @@ parts_are_worked = record {
   done = λ layout desk five other. done_works layout desk five other _ refl;
   up = λ layout desk one i. let bad = rw one at i.ends in absurd (cc);
   register = λ layout rows voice s desk h none some i. (
-      let sees = own_sees h PULSE_POINTER (lit< tt) in
-      let is = own_is h PULSE_POINTER 0 (lit< tt) ((own_bytes h).pulse_pointer ∙ none) in
+      let sees = own_sees h PULSE_POINTER refl in
+      let is = own_is h PULSE_POINTER 0 refl ((own_bytes h).pulse_pointer ∙ none) in
       let y = rw (sees, is) at i.kept_are.0 in
       some (sym y));
   carry = λ layout desk one off i. (
@@ -110,8 +110,8 @@ parts_are_worked = record {
   tone_next = λ layout desk three. tone_works_next layout desk three _ refl;
   special = λ layout desk kept row i. let bad = rw (row, kept) at i.ends in absurd (cc);
   held = λ layout rows voice s desk h kept listed i. (
-      let sees = own_sees h INSTRUMENT (lit< tt) in
-      let is = own_is h INSTRUMENT s.voice.instrument (lit< tt) (own_bytes h).instrument in
+      let sees = own_sees h INSTRUMENT refl in
+      let is = own_is h INSTRUMENT s.voice.instrument refl (own_bytes h).instrument in
       let sees_timer = listed.reads in
       let is_timer = listed.is in
       let bad = rw (sees, is, sees_timer, is_timer, kept) at i.ends in absurd (cc));
@@ -122,8 +122,8 @@ parts_are_worked = record {
   delay = λ layout rows voice s desk h kept none listed i. (
       let sees = listed.reads in
       let is = listed.is in
-      let writes = own_writes h VIB_DELAY (lit< tt) in
-      let its = own_is h VIB_DELAY 255 (lit< tt) ((own_bytes h).vib_delay kept ∙ ap (λ n. (n + 255) % 256) none) in
+      let writes = own_writes h VIB_DELAY refl in
+      let its = own_is h VIB_DELAY 255 refl ((own_bytes h).vib_delay kept ∙ ap (λ n. (n + 255) % 256) none) in
       let here : ℕ = (layout.address VIB_DELAY + desk.cpu.x) % 65536 in
       let same : nat_eq here here ≡ true = eq-eqb here here refl in
       let stays = i.stays here in
@@ -142,9 +142,9 @@ parts_are_worked = record {
   pulse = λ layout rows voice s desk h listed time i. (
       let sees = listed.reads in
       let is = listed.is in
-      let pointer = own_writes h PULSE_POINTER (lit< tt) in
-      let writes = own_writes h PULSE_TIME (lit< tt) in
-      let its = own_is h PULSE_TIME 1 (lit< tt) time in
+      let pointer = own_writes h PULSE_POINTER refl in
+      let writes = own_writes h PULSE_TIME refl in
+      let its = own_is h PULSE_TIME 1 refl time in
       let here : ℕ = (layout.address PULSE_TIME + desk.cpu.x) % 65536 in
       let same : nat_eq here here ≡ true = eq-eqb here here refl in
       let stays = i.stays here in
@@ -165,9 +165,24 @@ parts_are_worked = record {
   volume = λ alike. (let a = alike.a_is in absurd (cc));
   width_low = λ alike. (let a = alike.a_is in absurd (cc));
   bare = λ clears. (let way = clears.ends in absurd (cc));
+  no_load = λ clears. (let a = clears.a_is in absurd (cc));
+  with_load = λ i. (let a = i.kept_are.0 in absurd (cc));
+  load = λ i. (let a = i.kept_are.0 in absurd (cc));
   runs = λ leaves. (let name : 134 ≡ 132 = ap name_of leaves.goes in absurd (omega (arith, name)));
   stored = λ i. (let stays = i.stays WAVE_TIME tt in absurd (cc));
   stored_by = λ i. (let a = i.kept_are.0 in absurd (cc));
+  time = λ i. (let stays = i.stays WAVE_TIME ((λ e. omega (arith, e)), ((λ e. omega (arith, e)), tt)) in absurd (cc));
+  command = λ i. (let stays = i.stays COMMAND ((λ e. omega (arith, e)), ((λ e. omega (arith, e)), tt)) in absurd (cc));
+  note_load = λ i. (let a = i.kept_are.0 in absurd (cc));
+  other_time = λ i. (let stays = i.stays WAVE_TIME tt in absurd (cc));
+  other_load = λ i. (let a = i.kept_are.0 in absurd (cc));
+  sides = λ same. (let stays = same COMMAND ((λ e. omega (arith, e)), tt) in absurd (cc));
+  first_row = λ i. (let stays = i.stays KEPT_PARAM tt in absurd (cc));
+  first_load = λ i. (let a = i.kept_are.0 in absurd (cc));
+  first_carry = λ i. (let c = i.kept_are.0 in absurd (cc));
+  no_command = λ i. (let stays = i.stays NEW_COMMAND tt in absurd (cc));
+  no_carry = λ i. (let c = i.kept_are.0 in absurd (cc));
+  param = λ i. (let a = i.kept_are.0 in absurd (cc));
   read = refl;
   read_under = refl;
   read_else = refl;

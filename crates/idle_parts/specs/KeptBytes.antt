@@ -7,7 +7,7 @@ use Rattle.cpu6502.specs.declared.mnemonic.Mnemonic.TheVariants.{Lda}
 use Rattle.play_model.specs.State.{Playing, Common}
 use Rattle.scopes.specs.declared.line.Line.TheVariants.{With}
 use Rattle.scopes.specs.declared.line.Operand.{Operand}
-use Rattle.scopes.specs.declared.line.Operand.TheVariants.{Number, Var, Own, Entry}
+use Rattle.scopes.specs.declared.line.Operand.TheVariants.{Number, Var, Own, Entry, Pointed}
 use Rattle.scopes.specs.Desk.{Desk, Layout, operand_place}
 use Rattle.scopes.specs.Steps.{is_store}
 use Rattle.scopes.specs.Trees.{Tree, WithTree, ThenTree, ScopeTree, LoopTree, WhenTree, ChooseTree, tree_of}
@@ -17,9 +17,10 @@ use Rattle.kept_lines.specs.KeptLines.{keeps}
 use Rattle.player_memory.specs.declared.conditions.TheConstants.{FILTER_USED, SET_VOLUME, PULSE_TABLE, ROW_COMMAND}
 use Rattle.player_memory.specs.declared.conditions.TheConstants.{WAVE_DELAY, NOTE_DEPENDENT, SWINGS, INSTRUMENT_VIBRATO}
 use Rattle.player_memory.specs.declared.conditions.TheConstants.{FUNK_TEMPO, ROW_TONE, ROW_ONCE, WAVE_COMMAND}
-use Rattle.player_memory.specs.declared.conditions.TheConstants.{FILTER_TABLE, EFFECTS}
+use Rattle.player_memory.specs.declared.conditions.TheConstants.{FILTER_TABLE, EFFECTS, SKIP_FIRST}
 use Rattle.player_memory.specs.declared.labels.TheConstants.{NEW_COMMAND, NEW_PARAM, COMMAND, PARAM, VIB_TIME, VIB_DELAY}
 use Rattle.player_memory.specs.declared.labels.TheConstants.{LAST_NOTE, WAVE_TIME, VOLUME, FUNK_ONE, FUNK_TWO, VIBRATOS}
+use Rattle.player_memory.specs.declared.labels.TheConstants.{TICK, KEPT_PARAM}
 use Rattle.player_memory.specs.declared.variables.Kept.{Kept as Row}
 use Rattle.player_memory.specs.declared.variables.Kept.TheVariants.{Always, Where, Else}
 use Rattle.player_memory.specs.declared.variables.VoiceByte.{VoiceByte}
@@ -36,7 +37,7 @@ use Rattle.player_text.specs.declared.pitch.TheConstants.{PITCH}
 use Rattle.player_text.specs.declared.fetch.TheConstants.{ENTRY_BEGUN, ENTRY_READ}
 use Rattle.player_text.specs.declared.filter.TheConstants.{FILTER_REGISTERS}
 use Rattle.player_text.specs.declared.register.TheConstants.{REGISTERS}
-use Rattle.player_text.specs.declared.init.TheConstants.{ALL_CLEARED, FUNK_STARTED, VOICE_STARTED, TEMPO_STARTED}
+use Rattle.player_text.specs.declared.init.TheConstants.{VARIABLES_CLEARED, FUNK_STARTED, VOICE_STARTED, TEMPO_STARTED}
 use Rattle.player_text.specs.declared.texts.Start.{Start}
 use Rattle.player_text.specs.Texts.{voice_tree, filter_tree, init_tree}
 use Rattle.idle_parts.specs.Idle.{A, Y, Carry, Kept, AreKept, Idles, HoldsVoice, part}
@@ -85,8 +86,9 @@ pub record LeavesAll (layout : Layout) (body : Tree) (desk : Desk) (name : ℕ) 
   pub decimal : (ran each_one layout body desk).desk.cpu.d ≡ desk.cpu.d
 
 -- The width is 0: both sides load its low byte alike, and its high one is idle where A is 0. A row without a command:
--- one side leaves, and the other comes to its own end, which is there too, with 0 in A. No command runs, and no
--- vibrato of an instrument, as it has no parameter: both sides leave for the same.
+-- one side leaves, and the other comes to its own end, which is there too, with 0 in A where a command may run; where
+-- none may, it is idle, and what loads the 0 changes A alone. No command runs, and no vibrato of an instrument, as it
+-- has no parameter: both sides leave for the same.
 pub record VoiceLoadsIdle (layout : Layout) (s : Playing) (desk : Desk) : Type 0 where
   pub width_low : layout.holds PULSE_TABLE ≡ true → s.voice.pulse % 256 ≡ 0 →
       Alike layout (part PULSE_TABLE 0 REGISTERS.now) (part PULSE_TABLE 1 REGISTERS.now) desk (Y ∷ Carry ∷ [])
@@ -94,7 +96,10 @@ pub record VoiceLoadsIdle (layout : Layout) (s : Playing) (desk : Desk) : Type 0
       Idles layout (part PULSE_TABLE 2 REGISTERS.now) desk (A ∷ Y ∷ Carry ∷ [])
   pub bare : layout.holds ROW_COMMAND ≡ true → s.voice.new_command ≡ 0 →
       Clears layout (part ROW_COMMAND 0 COMMAND_BEGUN.now) desk (Left BARE)
-  pub bare_ends : Clears layout (part ROW_COMMAND 1 COMMAND_BEGUN.now) desk Done
+  pub bare_ends : layout.holds EFFECTS ≡ true → Clears layout (part ROW_COMMAND 1 COMMAND_BEGUN.now) desk Done
+  pub bare_idles : layout.holds EFFECTS ≡ false →
+      Idles layout (part ROW_COMMAND 1 COMMAND_BEGUN.now) desk (A ∷ Y ∷ Carry ∷ [])
+  pub bare_load : Idles layout (part EFFECTS 0 COMMAND_BEGUN.now) desk (Y ∷ Carry ∷ [])
   pub none_runs : layout.holds EFFECTS ≡ true → s.voice.command ≡ 0 →
       (layout.holds INSTRUMENT_VIBRATO ≡ true → s.voice.param ≡ 0) →
       LeavesAll layout (part EFFECTS 0 EFFECT_BEGUN.now) desk EFFECTED
@@ -136,27 +141,44 @@ abbrev pub Stores : List Operand → Tree → List Kept → Type 0
 Stores stored body kept =
     (layout : Layout) (desk : Desk) → MayReach layout stored desk → IdlesBut layout stored body desk kept
 
--- and where the instrument in Y has a vibrato that may be read
-abbrev pub StoresByVibrato : List Operand → Tree → List Kept → Type 0
-StoresByVibrato stored body kept =
+-- and where another one may be read
+abbrev pub StoresBy : Operand → List Operand → Tree → List Kept → Type 0
+StoresBy other stored body kept =
     (layout : Layout) (desk : Desk) → MayReach layout stored desk →
-    layout.may_read (operand_place layout (Entry VIBRATOS) desk) ≡ true → IdlesBut layout stored body desk kept
+    layout.may_read (operand_place layout other desk) ≡ true → IdlesBut layout stored body desk kept
+
+-- behind both sides of a choice each byte is the same, but for those that the first side stores besides
+abbrev pub LeaveSame : Layout → List Operand → Tree → Tree → Desk → Type 0
+LeaveSame layout stored one other desk =
+    (place : ℕ) → IsAway layout stored desk place →
+    (ran each_one layout one desk).desk.at place ≡ (ran each_one layout other desk).desk.at place
+
+-- what a note stores where it begins
+abbrev pub NOTE_STORES : List Operand
+NOTE_STORES = Own WAVE_TIME ∷ Own COMMAND ∷ Own PARAM ∷ []
 
 -- a note begins, and a command 8 begins a wave program; a number sets the frequency; an entry is read; a row's command
 -- is taken; and a subtune begins
 pub record StoresIdle : Type 0 where
   pub note_time : Stores (Own WAVE_TIME ∷ []) (part WAVE_DELAY 0 NOTE_BEGUN.now) (A ∷ Y ∷ Carry ∷ [])
-  pub note_command : StoresByVibrato (Own COMMAND ∷ Own PARAM ∷ []) (part EFFECTS 0 NOTE_BEGUN.now) (Y ∷ Carry ∷ [])
+  pub other_time : Stores (Own WAVE_TIME ∷ []) (part WAVE_DELAY 1 NOTE_BEGUN.now) (Y ∷ Carry ∷ [])
+  pub note_command : StoresBy (Entry VIBRATOS) NOTE_STORES (part EFFECTS 0 NOTE_BEGUN.now) (Y ∷ Carry ∷ [])
+  pub note_other : Stores (Own WAVE_TIME ∷ []) (part EFFECTS 1 NOTE_BEGUN.now) (Y ∷ Carry ∷ [])
+  pub note_sides : (layout : Layout) (desk : Desk) → MayReach layout NOTE_STORES desk →
+      layout.may_read (operand_place layout (Entry VIBRATOS) desk) ≡ true →
+      LeaveSame layout (Own COMMAND ∷ Own PARAM ∷ []) (part EFFECTS 0 NOTE_BEGUN.now)
+      (part EFFECTS 1 NOTE_BEGUN.now) desk
   pub set_time : Stores (Own WAVE_TIME ∷ []) (part WAVE_DELAY 0 WAVE_POINTER_SET.now) (Y ∷ Carry ∷ [])
   pub last_note : Stores (Own LAST_NOTE ∷ []) (part NOTE_DEPENDENT 0 PITCH.now) (A ∷ Y ∷ Carry ∷ [])
   pub swing : Stores (Own VIB_TIME ∷ []) (part SWINGS 0 PITCH.now) (Y ∷ Carry ∷ [])
-  pub no_command : Stores (Own NEW_COMMAND ∷ []) (part ROW_COMMAND 0 ENTRY_BEGUN.now) (Y ∷ Carry ∷ [])
+  pub first_row : StoresBy (Own TICK) (Var KEPT_PARAM ∷ []) (part SKIP_FIRST 0 ENTRY_BEGUN.now) (Y ∷ [])
+  pub no_command : Stores (Own NEW_COMMAND ∷ []) (part ROW_COMMAND 0 ENTRY_BEGUN.now) (Y ∷ [])
   pub command : Stores (Own NEW_COMMAND ∷ []) (part ROW_COMMAND 0 ENTRY_READ.now) (Y ∷ Carry ∷ [])
-  pub param : Stores (Own NEW_PARAM ∷ []) (part ROW_COMMAND 1 ENTRY_READ.now) (A ∷ Y ∷ Carry ∷ [])
+  pub param : StoresBy Pointed (Own NEW_PARAM ∷ []) (part ROW_COMMAND 1 ENTRY_READ.now) (Y ∷ Carry ∷ [])
   pub slide : Stores (Own VIB_TIME ∷ []) (part SWINGS 0 COMMAND_BEGUN.now) (Y ∷ [])
-  pub row_command : StoresByVibrato (Own COMMAND ∷ []) (part EFFECTS 0 COMMAND_BEGUN.now) (Y ∷ Carry ∷ [])
-  pub row_param : Stores (Own PARAM ∷ []) (part EFFECTS 1 COMMAND_BEGUN.now) (A ∷ Y ∷ Carry ∷ [])
-  pub volume : Stores (Var VOLUME ∷ []) (part SET_VOLUME 0 ALL_CLEARED.now) (Y ∷ Carry ∷ [])
+  pub row_command : StoresBy (Entry VIBRATOS) (Own COMMAND ∷ []) (part EFFECTS 1 COMMAND_BEGUN.now) (Y ∷ Carry ∷ [])
+  pub row_param : Stores (Own PARAM ∷ []) (part EFFECTS 2 COMMAND_BEGUN.now) (A ∷ Y ∷ Carry ∷ [])
+  pub volume : Stores (Var VOLUME ∷ []) (part SET_VOLUME 0 VARIABLES_CLEARED.now) (Y ∷ Carry ∷ [])
   pub funk_one : (number : ℕ) →
       Stores (Var FUNK_ONE ∷ []) (tree_of (With Lda (Number number) ∷ FUNK_STARTED.now)) (Y ∷ Carry ∷ [])
   pub delay : Stores (Own VIB_DELAY ∷ []) (part INSTRUMENT_VIBRATO 0 VOICE_STARTED.now) (A ∷ Y ∷ Carry ∷ [])
@@ -235,4 +257,4 @@ reads_under pairs held tree = true
 pub record ReadWhereKept : Type 0 where
   pub voice : reads_under KEEPING [] voice_tree ≡ true
   pub filter : reads_under KEEPING [] filter_tree ≡ true
-  pub init : (start : Start) → reads_under KEEPING [] (init_tree start) ≡ true
+  pub init : (start : Start) (variables : ℕ) → reads_under KEEPING [] (init_tree start variables) ≡ true

@@ -1,6 +1,6 @@
 -- Which parts the player has: under each condition of a song's features and facts, and of what they have in common,
 -- those of its blocks that have a law. A choice has two, one behind the other. This is the project's own player.
-use Rattle.std.specs.Prelude.{◌≡◌, [], ◌∷◌, ◌++◌}
+use Rattle.std.specs.Prelude.{◌≡◌, ℕ, [], ◌∷◌, ◌++◌}
 use Rattle.cpu6502.specs.declared.mnemonic.Mnemonic.TheVariants.{Lda}
 use Rattle.scopes.specs.declared.line.Line.TheVariants.{With}
 use Rattle.scopes.specs.declared.line.Operand.TheVariants.{Number}
@@ -23,7 +23,7 @@ use Rattle.player_text.specs.declared.fetch.TheConstants.{ENTRY_BEGUN, ENTRY_REA
 use Rattle.player_text.specs.declared.filter.TheConstants.{FILTER_STEP, FILTER_REGISTERS}
 use Rattle.player_text.specs.declared.pitch.TheConstants.{PITCH, GIVEN_BACK}
 use Rattle.player_text.specs.declared.pulse.TheConstants.{PULSE}
-use Rattle.player_text.specs.declared.init.TheConstants.{ALL_CLEARED, FUNK_STARTED, VOICE_STARTED, TEMPO_STARTED}
+use Rattle.player_text.specs.declared.init.TheConstants.{VARIABLES_CLEARED, FUNK_STARTED, VOICE_STARTED, TEMPO_STARTED}
 use Rattle.player_text.specs.declared.register.TheConstants.{REGISTERS}
 use Rattle.player_text.specs.declared.slide.TheConstants.{CLIMB_STEP, DROP_STEP, FOUND_STEP, PORTA_STEP, RISE_STEP}
 use Rattle.player_text.specs.declared.slide.TheConstants.{SINK_STEP, SPEED_STEP, SWING_STEP, TONE_STEP}
@@ -101,22 +101,25 @@ pub record PartsAreThese : Type 0 where
   pub no_hard_restart : bodies NO_HARD_RESTART voice_tree ≡ part NO_HARD_RESTART 0 GATE_CLOSED.now ∷ []
   pub special_row : bodies SPECIAL_ROW voice_tree ≡ part SPECIAL_ROW 0 WAVE_STEP.now ∷ []
   pub wave_delay : bodies WAVE_DELAY voice_tree
-      ≡ part WAVE_DELAY 0 NOTE_BEGUN.now ∷ part WAVE_DELAY 0 WAVE_POINTER_SET.now ∷ part WAVE_DELAY 0 WAVE_STEP.now ∷ []
+      ≡ part WAVE_DELAY 0 NOTE_BEGUN.now ∷ part WAVE_DELAY 1 NOTE_BEGUN.now ∷ part WAVE_DELAY 0 WAVE_POINTER_SET.now
+      ∷ part WAVE_DELAY 0 WAVE_STEP.now ∷ []
   pub gate_note : bodies GATE_NOTE voice_tree ≡ part GATE_NOTE 0 ENTRY_READ.now ∷ []
   pub voice_tempo : bodies VOICE_TEMPO voice_tree ≡ part VOICE_TEMPO 0 TEMPO_SET.now ∷ []
   pub common_tempo : bodies COMMON_TEMPO voice_tree ≡ part COMMON_TEMPO 0 TEMPO_SET.now ∷ []
   pub turns : bodies FUNK_TURNS voice_tree ≡ part FUNK_TURNS 0 FUNK_SET.now ∷ []
   pub choice : bodies FUNK_CHOICE voice_tree ≡ part FUNK_CHOICE 0 FUNK_CHOSEN.now ∷ []
   pub effects : bodies EFFECTS voice_tree
-      ≡ part EFFECTS 0 NOTE_BEGUN.now ∷ part EFFECTS 0 COMMAND_BEGUN.now ∷ part EFFECTS 1 COMMAND_BEGUN.now
-      ∷ part EFFECTS 0 EFFECT_BEGUN.now ∷ part EFFECTS 1 EFFECT_BEGUN.now ∷ all_of effect_pieces ∷ []
+      ≡ part EFFECTS 0 NOTE_BEGUN.now ∷ part EFFECTS 1 NOTE_BEGUN.now ∷ part EFFECTS 0 COMMAND_BEGUN.now
+      ∷ part EFFECTS 1 COMMAND_BEGUN.now ∷ part EFFECTS 2 COMMAND_BEGUN.now ∷ part EFFECTS 0 EFFECT_BEGUN.now
+      ∷ part EFFECTS 1 EFFECT_BEGUN.now ∷ all_of effect_pieces ∷ []
   pub filter_used : bodies FILTER_USED voice_tree ≡ []
   pub the_filter_used : bodies FILTER_USED filter_tree
       ≡ part FILTER_USED 0 FILTER_REGISTERS.now ∷ part FILTER_USED 1 FILTER_REGISTERS.now
       ∷ part FILTER_USED 2 FILTER_REGISTERS.now ∷ []
   -- where a subtune begins: the first funk tempo is one of its numbers
-  pub volume_begins : (start : Start) → bodies SET_VOLUME (init_tree start) ≡ part SET_VOLUME 0 ALL_CLEARED.now ∷ []
-  pub delay_begins : (start : Start) →
-      bodies INSTRUMENT_VIBRATO (init_tree start) ≡ part INSTRUMENT_VIBRATO 0 VOICE_STARTED.now ∷ []
-  pub funk_begins : (start : Start) → bodies FUNK_TEMPO (init_tree start)
+  pub volume_begins : (start : Start) (variables : ℕ) →
+      bodies SET_VOLUME (init_tree start variables) ≡ part SET_VOLUME 0 VARIABLES_CLEARED.now ∷ []
+  pub delay_begins : (start : Start) (variables : ℕ) →
+      bodies INSTRUMENT_VIBRATO (init_tree start variables) ≡ part INSTRUMENT_VIBRATO 0 VOICE_STARTED.now ∷ []
+  pub funk_begins : (start : Start) (variables : ℕ) → bodies FUNK_TEMPO (init_tree start variables)
       ≡ tree_of (With Lda (Number start.funk) ∷ FUNK_STARTED.now) ∷ part FUNK_TEMPO 0 TEMPO_STARTED.now ∷ []

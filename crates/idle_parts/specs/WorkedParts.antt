@@ -1,20 +1,22 @@
 -- Where parts don't do nothing, worked by hand.
 use Rattle.std.specs.Prelude.{◌≡◌, ◌≢◌, ℕ, ◌+◌, ◌%◌, ◌≤◌, ◌==◌, not, true, false, [], ◌∷◌}
 use Rattle.cpu6502.specs.declared.mnemonic.Mnemonic.TheVariants.{Dex, Inc, Lda, Sta}
-use Rattle.scopes.specs.declared.line.Operand.TheVariants.{Own}
+use Rattle.scopes.specs.declared.line.Operand.TheVariants.{Own, Var}
 use Rattle.play_model.specs.State.{Playing}
 use Rattle.scopes.specs.Desk.{Desk, Layout}
 use Rattle.scopes.specs.Trees.{Tree, DoTree, WithTree, NoneTree, ThenTree, ScopeTree, LeaveTree, WhenTree}
 use Rattle.scopes.specs.Trees.{ChooseTree, NeverTree}
-use Rattle.scopes.specs.Meaning.{Left, each_one, ran}
+use Rattle.scopes.specs.Meaning.{Done, Left, each_one, ran}
 use Rattle.player_memory.specs.declared.conditions.TheConstants.{SET_AD, SET_TEMPO, PULSE_TABLE, PORTA_UP, TIE_NOTE}
 use Rattle.player_memory.specs.declared.conditions.TheConstants.{FIRST_MASK, GATE_NOTE, LEGATO, NO_HARD_RESTART, ROW_ONCE}
 use Rattle.player_memory.specs.declared.conditions.TheConstants.{ROW_TONE, SPECIAL_ROW, WAVE_COMMAND, INSTRUMENT_VIBRATO}
 use Rattle.player_memory.specs.declared.conditions.TheConstants.{ROW_COMMAND, EFFECTS, FILTER_USED, SET_VOLUME, WAVE_DELAY, SWINGS}
 use Rattle.player_memory.specs.declared.conditions.TheConstants.{HELD_NOTE, NOTE_VIBRATO, VIBRATO_DELAY, NOTE_PULSE, NOTE_FILTER}
 use Rattle.player_memory.specs.declared.conditions.TheConstants.{VOICE_TEMPO, COMMON_TEMPO, FUNK_TURNS, FUNK_CHOICE}
+use Rattle.player_memory.specs.declared.conditions.TheConstants.{SKIP_FIRST}
 use Rattle.player_memory.specs.declared.labels.TheConstants.{AD, NEW_COMMAND, PULSE_TIME, FILTER_TIME, GATE_TIMERS}
 use Rattle.player_memory.specs.declared.labels.TheConstants.{DELAYS, VIBRATOS, PULSES, FILTERS, VIB_TIME, WAVE_TIME}
+use Rattle.player_memory.specs.declared.labels.TheConstants.{COMMAND, NEW_PARAM, PARAM, KEPT_PARAM}
 use Rattle.player_memory.specs.Playing.{IsListed, own_at, shared_at}
 use Rattle.player_text.specs.declared.commands.TheConstants.{AD_SET, TEMPO_SET, FUNK_SET, FUNK_CHOSEN}
 use Rattle.player_text.specs.declared.slide.TheConstants.{PORTA_STEP, TONE_STEP}
@@ -27,11 +29,11 @@ use Rattle.player_text.specs.declared.register.TheConstants.{REGISTERS}
 use Rattle.player_text.specs.Texts.{voice_tree, filter_tree}
 use Rattle.player_text.specs.declared.tick.TheConstants.{NOTE_TAKEN, NOTE_BEGUN, PROGRAMS_BEGUN, COMMAND_BEGUN, BARE}
 use Rattle.player_text.specs.declared.wave.TheConstants.{WAVE_STEP}
-use Rattle.player_text.specs.declared.fetch.TheConstants.{ENTRY_READ, GATE_CLOSED}
+use Rattle.player_text.specs.declared.fetch.TheConstants.{ENTRY_BEGUN, ENTRY_READ, GATE_CLOSED}
 use Rattle.idle_parts.specs.Idle.{A, Y, Carry, Idles, HoldsVoice, bodies, front, part}
 use Rattle.idle_parts.specs.Fronts.{Finds}
 use Rattle.idle_parts.specs.Places.{leaves, may_end}
-use Rattle.idle_parts.specs.KeptBytes.{Alike, Clears, LeavesAll, IdlesBut, KEEPING, reads_under}
+use Rattle.idle_parts.specs.KeptBytes.{Alike, Clears, LeavesAll, IdlesBut, LeaveSame, NOTE_STORES, KEEPING, reads_under}
 
 -- an instruction, a leave under condition 5, and another one
 abbrev pub small : Tree
@@ -52,6 +54,10 @@ flat = record {
 -- the same without the lines for the tempo of one voice
 abbrev pub without_voice : Layout
 without_voice = record flat { holds = λ condition. not (condition == VOICE_TEMPO) }
+
+-- and without those where a command may run
+abbrev pub without_effects : Layout
+without_effects = record flat { holds = λ condition. not (condition == EFFECTS) }
 
 -- a desk in it with these in A and Y, and 2 in each place
 abbrev pub desk_with : ℕ → ℕ → Desk
@@ -159,11 +165,34 @@ pub record PartsAreWorked : Type 0 where
   pub width_low : ¬ Alike flat (part PULSE_TABLE 0 REGISTERS.now) (part PULSE_TABLE 1 REGISTERS.now) (desk_with 0 0) []
   -- a row with command 2 doesn't leave as one without does
   pub bare : ¬ Clears flat (part ROW_COMMAND 0 COMMAND_BEGUN.now) (desk_with 0 0) (Left BARE)
+  -- without a row's commands A is 0 only where a command may run, and that load changes it
+  pub no_load : ¬ Clears without_effects (part ROW_COMMAND 1 COMMAND_BEGUN.now) (desk_with 1 0) Done
+  pub with_load : ¬ Idles flat (part ROW_COMMAND 1 COMMAND_BEGUN.now) (desk_with 1 0) (A ∷ [])
+  pub load : ¬ Idles flat (part EFFECTS 0 COMMAND_BEGUN.now) (desk_with 1 0) (A ∷ [])
   -- a voice with command 2 goes on to the effect step
   pub runs : ¬ LeavesAll flat (part EFFECTS 0 EFFECT_BEGUN.now) (desk_with 0 0) EFFECTED
   -- a store that isn't named changes a byte, and one that is may change A
   pub stored : ¬ IdlesBut flat [] (part WAVE_DELAY 0 NOTE_BEGUN.now) (desk_with 0 0) []
   pub stored_by : ¬ IdlesBut flat (Own VIB_TIME ∷ []) (part SWINGS 0 PITCH.now) (desk_with 1 0) (A ∷ [])
+  -- where a note begins both sides store the time of a delay, and change A; but the first one stores the command and
+  -- its parameter, too
+  pub time : ¬ IdlesBut flat (Own COMMAND ∷ Own PARAM ∷ []) (part EFFECTS 0 NOTE_BEGUN.now) (desk_with 0 0) []
+  pub command : ¬ IdlesBut flat (Own WAVE_TIME ∷ Own PARAM ∷ []) (part EFFECTS 0 NOTE_BEGUN.now) (desk_with 0 0) []
+  pub note_load : ¬ IdlesBut flat NOTE_STORES (part EFFECTS 0 NOTE_BEGUN.now) (desk_with 1 0) (A ∷ [])
+  pub other_time : ¬ IdlesBut flat [] (part EFFECTS 1 NOTE_BEGUN.now) (desk_with 0 0) []
+  pub other_load : ¬ IdlesBut flat (Own WAVE_TIME ∷ []) (part WAVE_DELAY 1 NOTE_BEGUN.now) (desk_with 1 0) (A ∷ [])
+  pub sides : ¬ LeaveSame flat (Own PARAM ∷ []) (part EFFECTS 0 NOTE_BEGUN.now) (part EFFECTS 1 NOTE_BEGUN.now)
+      (desk_with 0 0)
+  -- an entry's offset is remembered, or the tick at a pattern's first entry, which clears the command, too; both
+  -- compare, which sets the carry; and an entry's parameter is loaded, here 2
+  pub first_row : ¬ IdlesBut flat [] (part SKIP_FIRST 0 ENTRY_BEGUN.now) (desk_with 0 3) []
+  pub first_load : ¬ IdlesBut flat (Var KEPT_PARAM ∷ []) (part SKIP_FIRST 0 ENTRY_BEGUN.now) (desk_with 0 1) (A ∷ [])
+  pub first_carry : ¬ IdlesBut flat (Var KEPT_PARAM ∷ []) (part SKIP_FIRST 0 ENTRY_BEGUN.now) (desk_with 0 2)
+      (Carry ∷ [])
+  pub no_command : ¬ IdlesBut flat [] (part ROW_COMMAND 0 ENTRY_BEGUN.now) (desk_with 0 1) []
+  pub no_carry : ¬ IdlesBut flat (Own NEW_COMMAND ∷ []) (part ROW_COMMAND 0 ENTRY_BEGUN.now) (desk_with 0 2)
+      (Carry ∷ [])
+  pub param : ¬ IdlesBut flat (Own NEW_PARAM ∷ []) (part ROW_COMMAND 1 ENTRY_READ.now) (desk_with 0 0) (A ∷ [])
   -- A row's command is read under a condition that keeps it: not under none, and not on the other side of a choice. A
   -- store reads none, but what counts up does. Of the pairs each is needed.
   pub read : reads_under KEEPING [] (WithTree Lda (Own NEW_COMMAND)) ≡ false

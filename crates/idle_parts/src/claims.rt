@@ -64,9 +64,10 @@ pub fn parts_can_be_left_out()
 {}
 
 /// Of the bytes that are kept under a condition alone: the lines that load one are idle where it holds what it would
-/// stand for without them; those that store one change nothing else; each that reads one stands under its condition, or
-/// under another that keeps it; and whatever a song asks for, that one is held with the other.
-#[tactic(auto, using(crate::proofs::KeptBytes::filter_loads, crate::proofs::KeptBytes::stores_idle, crate::proofs::KeptBytes::read_where_kept, crate::proofs::KeptBytes::pairs_are_kept))]
+/// stand for without them; those that store one change nothing else, and a choice's two sides leave the same but what
+/// one of them stores, too; each that reads one stands under its condition, or under another that keeps it; and
+/// whatever a song asks for, that one is held with the other.
+#[tactic(auto, using(crate::proofs::KeptBytes::filter_loads, crate::proofs::KeptStores::stores_idle, crate::proofs::KeptBytes::read_where_kept, crate::proofs::KeptBytes::pairs_are_kept))]
 pub fn bytes_can_be_left_out()
     ensures filter { FilterLoads }
     ensures voice { VoiceLoads }

@@ -14,13 +14,10 @@ use Rattle.scopes.specs.Desk.{Desk, Layout}
 use Rattle.scopes.specs.Steps.{done_with}
 use Rattle.scopes.specs.Meaning.{Done}
 use Rattle.scopes.specs.Trees.{Tree, DoTree, WithTree, NoneTree, ThenTree, LoopTree, AgainIfTree}
+use Rattle.init_code.specs.InitBlock.{IsOutOf}
 use Rattle.init_code.proofs.Going.{Goes, goes_on, stored, step, step_alone, turn_more, turn_last, again, no_turn}
 
 -- ---- places
-
--- a place that isn't one of so many from a base on
-abbrev pub IsOutOf : ℕ → ℕ → ℕ → Type 0
-IsOutOf base count place = (place < base) ⊎ (base + count ≤ place)
 
 -- so many places are 0, and the others are as before; X apart, so are the registers
 pub record IsCleared (base count : ℕ) (before after : Desk) : Type 0 where
@@ -81,21 +78,23 @@ more_is base n d after x a is = record {
   decimal = is.decimal;
 }
 
+-- in so many turns or more
 pub cleared : (layout : Layout) (operand : Operand) (base count : ℕ) → Stores layout operand base count →
-    (n : ℕ) (d : Desk) → n < count → n < 128 → d.cpu.x ≡ n → d.cpu.a ≡ 0 →
-    Goes layout (LoopTree (suc n) (clear_tree operand)) Done (IsCleared base (suc n) d) d
-cleared layout operand base count stores zero d few small x a =
-    turn_last layout 0 (clear_tree operand) _ d
+    (turns n : ℕ) (d : Desk) → n < turns → n < count → n < 128 → d.cpu.x ≡ n → d.cpu.a ≡ 0 →
+    Goes layout (LoopTree turns (clear_tree operand)) Done (IsCleared base (suc n) d) d
+cleared layout operand base count stores zero n d less few small x a = absurd (omega (arith, less))
+cleared layout operand base count stores (suc turns) zero d less few small x a =
+    turn_last layout turns (clear_tree operand) _ d
     (step layout Sta operand _ _ _ d (stored (base + d.cpu.x) d) (stores d (omega (arith, few, x)))
     (step_alone layout Dex _ _ _ _ (back (stored (base + d.cpu.x) d)) refl
     (no_turn layout (Off Minus) _ _ (rw x refl) (first_is base d x a))))
-cleared layout operand base count stores (suc n) d few small x a =
-    turn_more layout (suc n) (clear_tree operand) _ d
+cleared layout operand base count stores (suc turns) (suc n) d less few small x a =
+    turn_more layout turns (clear_tree operand) _ d
     (step layout Sta operand _ _ _ d (stored (base + d.cpu.x) d) (stores d (omega (arith, few, x)))
     (step_alone layout Dex _ _ _ _ (back (stored (base + d.cpu.x) d)) refl
     (again layout (Off Minus) _ _ _ (rw below refl)
-    (goes_on layout (LoopTree (suc n) (clear_tree operand)) Done _ _ _ (λ m is. more_is base n d m x a is)
-    (cleared layout operand base count stores n (back (stored (base + d.cpu.x) d))
+    (goes_on layout (LoopTree turns (clear_tree operand)) Done _ _ _ (λ m is. more_is base n d m x a is)
+    (cleared layout operand base count stores turns n (back (stored (base + d.cpu.x) d)) (omega (arith, less))
     (omega (arith, few)) (omega (arith, small)) next a)))))
   where
     next : (d.cpu.x + 255) % 256 ≡ n

@@ -6,7 +6,7 @@ use Rattle.std.proofs.lemmas.Bool.{and_parts, ltb-true}
 use Rattle.scopes.specs.Desk.{Desk, Layout}
 use Rattle.scopes.specs.Meaning.{Done, each_one, ran}
 use Rattle.player_memory.specs.declared.conditions.TheConstants.{INSTRUMENT_VIBRATO, SET_VOLUME, FUNK_TEMPO}
-use Rattle.player_memory.specs.declared.labels.TheConstants.{VARIABLES, SLIDES_LOW, SLIDES_HIGH}
+use Rattle.player_memory.specs.declared.labels.TheConstants.{VARIABLES, FIRST_VARIABLE, SLIDES_LOW, SLIDES_HIGH}
 use Rattle.player_memory.specs.declared.variables.Kept.{Kept}
 use Rattle.player_memory.specs.declared.variables.VoiceByte.{VoiceByte}
 use Rattle.player_memory.specs.declared.variables.TheConstants.{VOICE_BYTES, SONG_BYTES}
@@ -15,9 +15,9 @@ use Rattle.player_memory.specs.Playing.{own_at}
 use Rattle.player_memory.specs.Starting.{VoiceRowsBegin, SongRowsBegin, VoiceBegins, Begins}
 use Rattle.player_text.specs.declared.texts.Start.{Start}
 use Rattle.player_text.specs.Texts.{init_tree}
-use Rattle.init_code.specs.InitBlock.{Starts, InitBlockStarts}
+use Rattle.init_code.specs.InitBlock.{IsOutOf, MayClear, Starts, InitBlockStarts}
 use Rattle.init_code.proofs.Going.{Goes}
-use Rattle.init_code.proofs.Clearing.{IsOutOf}
+use Rattle.init_code.proofs.Variables.{IsNoVariable}
 use Rattle.init_code.proofs.Beginning.{IsBegun, last_variables, block_begins}
 
 -- ---- a voice's bytes, from the variables
@@ -110,31 +110,31 @@ begins layout start address at each = record {
 
 -- a place of the slides is none of the variables
 slide_out : (layout : Layout) (label rows row : ℕ) → IsList layout label rows → row < rows →
-    IsOutOf (layout.address 0) VARIABLES (layout.address label + row)
-slide_out layout label rows row is few = of is.outside
-  where
-    of : (layout.address label + rows ≤ layout.address 0) ⊎ (layout.address 0 + VARIABLES ≤ layout.address label) →
-        IsOutOf (layout.address 0) VARIABLES (layout.address label + row)
-    of (inl before) = inl (omega (arith, before, few))
-    of (inr behind) = inr (omega (arith, behind))
+    IsNoVariable layout (layout.address label + row)
+slide_out layout label rows row is few variable less e =
+    elim (is.outside variable less) [
+      | inl before ↦ omega (arith, before, e)
+      | inr behind ↦ omega (arith, behind, few, e)
+    ]
 
 module _ (layout : Layout) (rows : ℕ) (room : IsRoom layout rows) where
-  high_out : (place : ℕ) → 0xD000 ≤ place → IsOutOf (layout.address 0) VARIABLES place
-  high_out place high = inr (let ends = room.ends in omega (arith, ends, high))
+  high_out : (place : ℕ) → 0xD000 ≤ place → IsNoVariable layout place
+  high_out place high label few e = (let to = room.variables.to label few in omega (arith, to, high, e))
 
-  slide_stays : (start : Start) (address : ℕ → ℕ) (before after : Desk) (label row : ℕ) → IsList layout label rows →
-      row < rows → IsBegun layout start address before after →
+  slide_stays : (count : ℕ) (start : Start) (address : ℕ → ℕ) (before after : Desk) (label row : ℕ) →
+      IsList layout label rows → row < rows → IsOutOf (layout.address FIRST_VARIABLE) count (layout.address label + row) →
+      IsBegun layout count start address before after →
       after.at (layout.address label + row) ≡ before.at (layout.address label + row)
-  slide_stays start address before after label row is few begun =
+  slide_stays count start address before after label row is few out begun =
       begun.here.others (layout.address label + row) (slide_out layout label rows row is few)
       ∙ begun.is_past.others (layout.address label + row)
       (λ e. (let low = room.pointer_high in let from = is.from in omega (arith, e, low, from)))
-      (inl (let to = is.to in omega (arith, to, few))) (λ timed. inl (let to = is.to in omega (arith, to, few)))
+      (inl (let to = is.to in omega (arith, to, few))) (λ timed. inl (let to = is.to in omega (arith, to, few))) out
 
-  starts : (start : Start) (address : ℕ → ℕ) (before : Desk) →
-      Goes layout (init_tree start) Done (IsBegun layout start address before) before →
-      Starts layout rows start address before (ran each_one layout (init_tree start) before)
-  starts start address before goes = record {
+  starts : (count : ℕ) (start : Start) (address : ℕ → ℕ) (before : Desk) → MayClear layout rows count before.at →
+      Goes layout (init_tree start count) Done (IsBegun layout count start address before) before →
+      Starts layout rows count start address before (ran each_one layout (init_tree start count) before)
+  starts count start address before clear goes = record {
     ends = goes.ends;
     decimal = goes.to.here.decimal;
     begins = begins layout start address _ goes.to.here.variables;
@@ -144,15 +144,17 @@ module _ (layout : Layout) (rows : ℕ) (room : IsRoom layout rows) where
     timer_low = goes.to.here.others 0xDC04 (high_out 0xDC04 (omega arith)) ∙ goes.to.is_past.timer_low;
     timer_high = goes.to.here.others 0xDC05 (high_out 0xDC05 (omega arith)) ∙ goes.to.is_past.timer_high;
     slides = λ kept row few. record {
-      low = slide_stays start address before _ SLIDES_LOW row (room.slides kept).low few goes.to;
-      high = slide_stays start address before _ SLIDES_HIGH row (room.slides kept).high few goes.to;
+      low = slide_stays count start address before _ SLIDES_LOW row (room.slides kept).low few
+          (clear.low kept row few) goes.to;
+      high = slide_stays count start address before _ SLIDES_HIGH row (room.slides kept).high few
+          (clear.high kept row few) goes.to;
     };
     others = λ place is.
         goes.to.here.others place is.elsewhere.variables
-        ∙ goes.to.is_past.others place is.elsewhere.low is.elsewhere.registers is.timer;
+        ∙ goes.to.is_past.others place is.elsewhere.low is.elsewhere.registers is.timer is.cleared;
   }
 
 pub init_block_starts : InitBlockStarts
-init_block_starts layout rows subtune start address desk room may timer orders is =
-    starts layout rows room start address desk
-    (block_begins layout rows room may subtune start address desk timer orders is)
+init_block_starts layout rows subtune count start address desk room may clear timer orders is =
+    starts layout rows room count start address desk clear
+    (block_begins layout rows room may subtune count start address desk clear timer orders is)

@@ -18,7 +18,10 @@ use Rattle.player_memory.specs.declared.labels.TheConstants.{VARIABLES}
 use Rattle.player_memory.specs.Rooms.{IsRoom, MayUse}
 use Rattle.player_memory.specs.Playing.{place_in}
 use Rattle.init_code.proofs.Going.{Goes, goes_on, then_goes, loaded, stored, step, step_alone, kept, not_kept}
-use Rattle.init_code.proofs.Clearing.{IsOutOf}
+
+-- a place at which no variable stands
+abbrev pub IsNoVariable : Layout → ℕ → Type 0
+IsNoVariable layout place = (label : ℕ) → label < VARIABLES → place ≢ layout.address label
 
 -- the registers, the variables by their labels, and what stands elsewhere
 pub record IsHere (layout : Layout) (past vars : ℕ → ℕ) (a x y : ℕ) (d : Desk) : Type 0 where
@@ -27,7 +30,7 @@ pub record IsHere (layout : Layout) (past vars : ℕ → ℕ) (a x y : ℕ) (d :
   pub y_is : d.cpu.y ≡ y
   pub decimal : d.cpu.d ≡ false
   pub variables : (label : ℕ) → label < VARIABLES → d.at (layout.address label) ≡ vars label
-  pub others : (place : ℕ) → IsOutOf (layout.address 0) VARIABLES place → d.at place ≡ past place
+  pub others : (place : ℕ) → IsNoVariable layout place → d.at place ≡ past place
 
 -- what follows goes on wherever they are so
 abbrev pub Onward : (layout : Layout) (past vars : ℕ → ℕ) (a x y : ℕ) → Tree → Outcome → (Desk → Type 0) →
@@ -123,20 +126,18 @@ where_kept {layout = layout} {vars = vars} {a = a} {a_then = a_then} {rest = res
 
 -- ---- variables
 
+-- the byte of a voice at X stands so far behind the first voice's
+pub record IsVoiceAt (layout : Layout) (label x : ℕ) : Type 0 where
+  pub few : label + x < VARIABLES
+  pub at : layout.address (label + x) ≡ layout.address label + x
+
 -- behind a byte that is counted
 abbrev counted : ℕ → ℕ → Desk → Desk
 counted place byte d = record { cpu = with_sign_and_zero d.cpu byte; at = put d.at place byte }
 
 module _ (layout : Layout) (rows : ℕ) (room : IsRoom layout rows) (may : MayUse layout rows) where
   apart : (one two : ℕ) → one < VARIABLES → two < VARIABLES → one ≢ two → layout.address one ≢ layout.address two
-  apart one two few less other e =
-      let a = room.variables one few in
-      let b = room.variables two less in other (omega (arith, a, b, e))
-
-  out_of : (label place : ℕ) → label < VARIABLES → IsOutOf (layout.address 0) VARIABLES place →
-      place ≢ layout.address label
-  out_of label place few (inl low) e = let a = room.variables label few in omega (arith, low, e, a)
-  out_of label place few (inr high) e = let a = room.variables label few in omega (arith, high, e, a, few)
+  apart one two few less other e = other (room.variables.apart one two few less e)
 
   -- a byte is put under a label
   put_variables : (at vars : ℕ → ℕ) (label byte its : ℕ) → label < VARIABLES → byte ≡ its →
@@ -165,17 +166,16 @@ module _ (layout : Layout) (rows : ℕ) (room : IsRoom layout rows) (may : MayUs
     decimal = after.decimal;
     variables = put_variables d.at vars label byte its few is here.variables;
     others = λ place out.
-        put_other d.at (layout.address label) byte place (out_of label place few out) ∙ here.others place out;
+        put_other d.at (layout.address label) byte place (out label few) ∙ here.others place out;
   }
 
   -- the place of a voice's byte
-  own_place : {past vars : ℕ → ℕ} {a x y : ℕ} {d : Desk} (label : ℕ) → label + x < VARIABLES →
+  own_place : {past vars : ℕ → ℕ} {a x y : ℕ} {d : Desk} (label : ℕ) → IsVoiceAt layout label x →
       IsHere layout past vars a x y d → (layout.address label + d.cpu.x) % MEMORY_SIZE ≡ layout.address (label + x)
-  own_place {x = x} label few here =
-      let a = room.variables label (omega (arith, few)) in
-      let b = room.variables (label + x) few in
-      let c = room.ends in
-      let e = here.x_is in omega (arith, a, b, c, e, few)
+  own_place {x = x} label own here =
+      let at = own.at in
+      let to = room.variables.to (label + x) own.few in
+      let e = here.x_is in omega (arith, at, to, e)
 
   pub sta_var : {past vars : ℕ → ℕ} {a x y label : ℕ} {rest : Tree} {end : Outcome} {P : Desk → Type 0} {d : Desk} →
       label < VARIABLES → IsHere layout past vars a x y d →
@@ -186,38 +186,38 @@ module _ (layout : Layout) (rows : ℕ) (room : IsRoom layout rows) (may : MayUs
       (follows _ (written d.cpu label d.cpu.a _ few here.a_is here here))
 
   pub sta_own : {past vars : ℕ → ℕ} {a x y label : ℕ} {rest : Tree} {end : Outcome} {P : Desk → Type 0} {d : Desk} →
-      label + x < VARIABLES → IsHere layout past vars a x y d →
+      IsVoiceAt layout label x → IsHere layout past vars a x y d →
       Onward layout past (put vars (label + x) a) a x y rest end P →
       Goes layout (ThenTree (WithTree Sta (Own label)) rest) end P d
-  sta_own {x = x} {label = label} {rest = rest} {end = end} {P = P} {d = d} few here follows =
+  sta_own {x = x} {label = label} {rest = rest} {end = end} {P = P} {d = d} own here follows =
       step layout Sta (Own label) rest end P d (stored (layout.address (label + x)) d)
-      (rw (own_place label few here, may.writes (label + x) few) refl)
-      (follows _ (written d.cpu (label + x) d.cpu.a _ few here.a_is here here))
+      (rw (own_place label own here, may.writes (label + x) own.few) refl)
+      (follows _ (written d.cpu (label + x) d.cpu.a _ own.few here.a_is here here))
 
   -- a byte is counted up or down
   pub inc_own : {past vars : ℕ → ℕ} {a x y label : ℕ} {rest : Tree} {end : Outcome} {P : Desk → Type 0} {d : Desk} →
-      label + x < VARIABLES → IsHere layout past vars a x y d →
+      IsVoiceAt layout label x → IsHere layout past vars a x y d →
       Onward layout past (put vars (label + x) ((vars (label + x) + 1) % 256)) a x y rest end P →
       Goes layout (ThenTree (WithTree Inc (Own label)) rest) end P d
-  inc_own {x = x} {label = label} {rest = rest} {end = end} {P = P} {d = d} few here follows =
+  inc_own {x = x} {label = label} {rest = rest} {end = end} {P = P} {d = d} own here follows =
       step layout Inc (Own label) rest end P d (counted (layout.address (label + x)) byte d)
-      (rw (own_place label few here, may.reads (label + x) few, may.writes (label + x) few) refl)
-      (follows _ (written (with_sign_and_zero d.cpu byte) (label + x) byte _ few
-      (ap (λ n. (n + 1) % 256) (here.variables (label + x) few)) here
+      (rw (own_place label own here, may.reads (label + x) own.few, may.writes (label + x) own.few) refl)
+      (follows _ (written (with_sign_and_zero d.cpu byte) (label + x) byte _ own.few
+      (ap (λ n. (n + 1) % 256) (here.variables (label + x) own.few)) here
       (moved _ here here.a_is here.x_is here.y_is here.decimal)))
     where
       byte : ℕ
       byte = (d.at (layout.address (label + x)) + 1) % 256
 
   pub dec_own : {past vars : ℕ → ℕ} {a x y label : ℕ} {rest : Tree} {end : Outcome} {P : Desk → Type 0} {d : Desk} →
-      label + x < VARIABLES → IsHere layout past vars a x y d →
+      IsVoiceAt layout label x → IsHere layout past vars a x y d →
       Onward layout past (put vars (label + x) ((vars (label + x) + 255) % 256)) a x y rest end P →
       Goes layout (ThenTree (WithTree Dec (Own label)) rest) end P d
-  dec_own {x = x} {label = label} {rest = rest} {end = end} {P = P} {d = d} few here follows =
+  dec_own {x = x} {label = label} {rest = rest} {end = end} {P = P} {d = d} own here follows =
       step layout Dec (Own label) rest end P d (counted (layout.address (label + x)) byte d)
-      (rw (own_place label few here, may.reads (label + x) few, may.writes (label + x) few) refl)
-      (follows _ (written (with_sign_and_zero d.cpu byte) (label + x) byte _ few
-      (ap (λ n. (n + 255) % 256) (here.variables (label + x) few)) here
+      (rw (own_place label own here, may.reads (label + x) own.few, may.writes (label + x) own.few) refl)
+      (follows _ (written (with_sign_and_zero d.cpu byte) (label + x) byte _ own.few
+      (ap (λ n. (n + 255) % 256) (here.variables (label + x) own.few)) here
       (moved _ here here.a_is here.x_is here.y_is here.decimal)))
     where
       byte : ℕ
@@ -228,7 +228,7 @@ module _ (layout : Layout) (rows : ℕ) (room : IsRoom layout rows) (may : MayUs
 -- a list has this byte, outside of the variables
 pub record IsEntry (layout : Layout) (past : ℕ → ℕ) (label number byte : ℕ) : Type 0 where
   pub reads : layout.may_read (place_in layout label number) ≡ true
-  pub out : IsOutOf (layout.address 0) VARIABLES (place_in layout label number)
+  pub out : IsNoVariable layout (place_in layout label number)
   pub is : past (place_in layout label number) ≡ byte
 
 pub lda_entry : {layout : Layout} {past vars : ℕ → ℕ} {a x y label byte : ℕ} {rest : Tree} {end : Outcome}

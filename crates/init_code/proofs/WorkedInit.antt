@@ -4,15 +4,19 @@ use Rattle.std.proofs.Common.{◌∙◌, ◌&&◌, Bool, true, false, nat_eq, na
 use Rattle.std.proofs.Common.{◌⊎◌, refl, ap, inl, inr, arith}
 use Rattle.std.proofs.lemmas.Bool.{le-leb, lt-ltb, leb-true, ltb-true, eqb-true, and_parts, agree_below, agree_below_at}
 use Rattle.std.proofs.lemmas.Bool.{both_ways}
+use Rattle.std.proofs.lemmas.Bool.Decides.{leb_tells}
+use Rattle.scopes.specs.Desk.{Layout}
 use Rattle.code_runs.specs.Runs.{put}
 use Rattle.code_runs.proofs.Laws.{put_other}
 use Rattle.scopes.specs.Meaning.{Ran, Outcome, Again}
 use Rattle.player_memory.specs.declared.labels.TheConstants.{ORDERS_LOW, ORDERS_HIGH, VIB_DELAY, VOLUME}
+use Rattle.player_memory.specs.declared.labels.TheConstants.{SLIDES_LOW, SLIDES_HIGH}
 use Rattle.player_memory.specs.Rooms.{IsRoom, MayUse, IsElsewhere}
 use Rattle.player_memory.specs.Playing.{place_in, own_at}
 use Rattle.player_memory.specs.WorkedMemory.{everywhere, nowhere}
 use Rattle.player_memory.specs.Starting.{VoiceBegins}
-use Rattle.init_code.specs.InitBlock.{IsOrderByte, HasOrders, IsUntouched}
+use Rattle.player_memory.proofs.Laws.{AreLaid, InOnePiece, in_one_piece, list_behind, off_variables}
+use Rattle.init_code.specs.InitBlock.{IsOutOf, MayClear, IsOrderByte, HasOrders, IsUntouched}
 use Rattle.init_code.specs.WorkedInit.{RunsAreWorked, SiteIsWorked, StartsAreWorked, site, its_address, its_memory}
 use Rattle.init_code.specs.WorkedInit.{untimed, called, numbers, at_timer, StartsSo, began, leaving}
 use Rattle.init_code.proofs.Starting.{init_block_starts}
@@ -59,6 +63,14 @@ runs_are_worked = record {
     slides = refl;
     cost_is = refl;
   };
+  fewer = record {
+    ends = refl;
+    variables_are = refl;
+    registers = refl;
+    timer_is = refl;
+    slides = refl;
+    cost_is = refl;
+  };
   decimal = refl;
   no_timer = refl;
   no_lists = refl;
@@ -66,15 +78,22 @@ runs_are_worked = record {
 
 -- ---- what the law asks
 
+piece : (layout : Layout) → AreLaid layout → InOnePiece layout 0x1006
+piece layout laid = record {
+  from = omega arith;
+  to = omega arith;
+  each = λ label few. eqb-true (layout.address label) (0x1006 + label)
+      (agree_below_at (λ l. nat_eq (layout.address l) (0x1006 + l)) (λ _. true) 113 label laid few);
+}
+
 room_is : (holds : ℕ → Bool) → IsRoom (site holds) 4
 room_is holds = record {
-  begins = omega arith;
-  ends = omega arith;
-  variables = λ label few. eqb-true ((site holds).address label) (0x1006 + label)
-      (agree_below_at (λ l. nat_eq ((site holds).address l) (0x1006 + l)) (λ _. true) 113 label refl few);
+  variables = in_one_piece (site holds) 0x1006 (piece (site holds) refl);
   slides = λ kept. record {
-    low = record { from = omega arith; to = omega arith; outside = inr (omega arith) };
-    high = record { from = omega arith; to = omega arith; outside = inr (omega arith) };
+    low = list_behind (site holds) 0x1006 (piece (site holds) refl) SLIDES_LOW 4 (omega arith) (omega arith)
+        (omega arith);
+    high = list_behind (site holds) 0x1006 (piece (site holds) refl) SLIDES_HIGH 4 (omega arith) (omega arith)
+        (omega arith);
     apart = inl (omega arith);
   };
   pointer_low = omega arith;
@@ -100,7 +119,7 @@ uses_are holds = record {
 elsewhere : (holds : ℕ → Bool) (place : ℕ) → 0x1108 ≤ place → (place < 0xD400) ⊎ (0xD419 ≤ place) →
     IsElsewhere (site holds) 4 place
 elsewhere holds place from registers = record {
-  variables = inr (omega (arith, from));
+  variables = off_variables (site holds) refl place (inr (omega (arith, from)));
   slides_low = λ kept. inr (omega (arith, from));
   slides_high = λ kept. inr (omega (arith, from));
   low = λ e. omega (arith, from, e);
@@ -116,14 +135,18 @@ stands label byte number =
     && nat_lt (place_in (site everywhere) label number) 0x1200)
 
 found : (holds : ℕ → Bool) (label : ℕ) (byte : ℕ → ℕ) → agree_below (stands label byte) (λ _. true) 6 ≡ true →
-    (number its : ℕ) → number < 6 → byte number ≡ its → IsOrderByte (site holds) 4 its_memory label number its
+    (number its : ℕ) → number < 6 → byte number ≡ its → IsOrderByte (site holds) 4 113 its_memory label number its
 found holds label byte all number its few is = record {
   listed = record {
     elsewhere = away;
     reads = reads (le-leb 0x1000 place (omega (arith, from))) (lt-ltb place 0x1200 to);
     is = eqb-true (its_memory place) (byte number) parts.0 ∙ is;
   };
-  untouched = record { elsewhere = away; timer = λ set. inl (omega (arith, to)) };
+  untouched = record {
+    elsewhere = away;
+    cleared = inr (omega (arith, from));
+    timer = λ set. inl (omega (arith, to));
+  };
 }
   where
     place : ℕ
@@ -147,7 +170,7 @@ found holds label byte all number its few is = record {
     reads low high = rw (low, high) refl
 
 orders_are : (holds : ℕ → Bool) (subtune : ℕ) → subtune < 2 →
-    HasOrders (site holds) 4 its_memory subtune (its_address subtune)
+    HasOrders (site holds) 4 113 its_memory subtune (its_address subtune)
 orders_are holds subtune few = record {
   low = λ voice less.
       found holds ORDERS_LOW (λ number. 0x11 * number) refl (3 * subtune + voice) _ (omega (arith, few, less))
@@ -162,15 +185,33 @@ between : {place low high : ℕ} → low ≤ place → place < high → ¬ ((pla
 between from to (inl below) = omega (arith, from, below)
 between from to (inr above) = omega (arith, to, above)
 
-timer_apart : (place : ℕ) → 0xD419 ≤ place → (place < 0xDC04) ⊎ (0xDC06 ≤ place) → IsUntouched (site everywhere) 4 place
+timer_apart : (place : ℕ) → 0xD419 ≤ place → (place < 0xDC04) ⊎ (0xDC06 ≤ place) →
+    IsUntouched (site everywhere) 4 113 place
 timer_apart place from out = record {
+  cleared = inr (omega (arith, from));
   elsewhere = elsewhere everywhere place (omega (arith, from)) (inr from);
   timer = λ set. out;
 }
 
+-- a place beside the variables, in front of the slides
+beside : (place : ℕ) → 0x0200 ≤ place → place < 0x1100 → (place < 0x1006) ⊎ (0x1077 ≤ place) →
+    IsUntouched (site everywhere) 4 113 place
+beside place from to off = record {
+  elsewhere = record {
+    variables = off_variables (site everywhere) refl place off;
+    slides_low = λ kept. inl to;
+    slides_high = λ kept. inl (omega (arith, to));
+    low = λ e. omega (arith, from, e);
+    high = λ e. omega (arith, from, e);
+    registers = inl (omega (arith, to));
+  };
+  cleared = off;
+  timer = λ set. inl (omega (arith, to));
+}
+
 timer_elsewhere : IsElsewhere (at_timer untimed) 4 0xDC05
 timer_elsewhere = record {
-  variables = inr (omega arith);
+  variables = off_variables (at_timer untimed) refl 0xDC05 (inr (omega arith));
   slides_low = λ kept. inr (omega arith);
   slides_high = λ kept. inr (omega arith);
   low = λ e. omega (arith, e);
@@ -178,10 +219,64 @@ timer_elsewhere = record {
   registers = inr (omega arith);
 }
 
+-- ---- what is cleared
+
+-- each variable is at its place
+at_place : (holds : ℕ → Bool) (label : ℕ) → label < 113 → (site holds).address label ≡ 0x1006 + label
+at_place holds label few = (piece (site holds) refl).each label few
+
+cleared_at : (holds : ℕ → Bool) (label : ℕ) → label < 113 →
+    (0x1006 ≤ (site holds).address label) × ((site holds).address label < 0x1006 + 113)
+cleared_at holds label few =
+    let at = at_place holds label few in (omega (arith, at), omega (arith, at, few))
+
+clears_are : (holds : ℕ → Bool) (count : ℕ) (at : ℕ → ℕ) →
+    ((label : ℕ) → label < 113 →
+    ((0x1006 ≤ (site holds).address label) × ((site holds).address label < 0x1006 + count))
+    ⊎ (IsOutOf 0x1006 count ((site holds).address label) × (at ((site holds).address label) ≡ 0))) →
+    1 ≤ count → count ≤ 113 → MayClear (site holds) 4 count at
+clears_are holds count at each some few = record {
+  some = some;
+  few = few;
+  to = omega (arith, few);
+  writes = λ number less.
+      agree_below_at (λ n. (site holds).may_write (0x1006 + n)) (λ _. true) 113 number refl (omega (arith, less, few));
+  low = λ kept row less. inr (omega (arith, few));
+  high = λ kept row less. inr (omega (arith, few));
+  each = each;
+}
+
+-- a hundred of them, where the others are 0
+hundred : (label : ℕ) → label < 113 →
+    ((0x1006 ≤ (site untimed).address label) × ((site untimed).address label < 0x1006 + 100))
+    ⊎ (IsOutOf 0x1006 100 ((site untimed).address label) × (◌≡◌ {A = ℕ} 0 0))
+hundred label few =
+    let at = at_place untimed label few in
+    elim (leb_tells 100 label) [
+      | inl behind ↦ (let from = behind.1 in inr (inr (omega (arith, at, from)), refl))
+      | inr inside ↦ (let to = inside.1 in inl (omega (arith, at), omega (arith, at, to)))
+    ]
+
+no_last : MayClear (site untimed) 4 112 its_memory → ⊥
+no_last clear = elim (clear.each 112 (omega arith)) [
+  | inl inside ↦ (let to = inside.1 in omega (arith, to))
+  | inr out ↦ (let zero = out.1 in omega (arith, zero))
+]
+
 pub site_is_worked : SiteIsWorked
 site_is_worked = record {
   room = room_is;
   uses = uses_are;
+  clears = λ holds.
+      clears_are holds 113 its_memory (λ label few. inl (cleared_at holds label few)) (omega arith) (omega arith);
+  fewer = clears_are untimed 100 (λ place. 0) hundred (omega arith) (omega arith);
+  not_zero = no_last;
+  none = λ clear. (let some = clear.some in omega (arith, some));
+  many = λ clear. (let few = clear.few in omega (arith, few));
+  high = λ clear. (let to = clear.to in omega (arith, to));
+  closed = λ clear. both_ways false refl (clear.writes 112 (omega arith));
+  low_slide = λ clear. between (omega arith) (omega arith) (clear.low refl 0 (omega arith));
+  high_slide = λ clear. between (omega arith) (omega arith) (clear.high refl 3 (omega arith));
   timer = λ holds. record { low = λ set. refl; high = λ set. refl };
   orders = orders_are;
   at_subtune = record { a = refl; byte = omega arith; decimal = refl };
@@ -195,13 +290,20 @@ site_is_worked = record {
   on_timer = λ byte. between (omega arith) (omega arith) (byte.untouched.timer refl);
   on_no_timer = record {
     listed = record { elsewhere = timer_elsewhere; reads = refl; is = refl };
-    untouched = record { elsewhere = timer_elsewhere; timer = λ set. absurd (both_ways false refl set) };
+    untouched = record {
+      elsewhere = timer_elsewhere;
+      cleared = inr (omega arith);
+      timer = λ set. absurd (both_ways false refl set);
+    };
   };
   before_timer = timer_apart 0xDC03 (omega arith) (inl (omega arith));
   timer_low = λ is. between (omega arith) (omega arith) (is.timer refl);
   timer_high = λ is. between (omega arith) (omega arith) (is.timer refl);
   behind_timer = timer_apart 0xDC06 (omega arith) (inr (omega arith));
-  variable = λ is. between (omega arith) (omega arith) is.elsewhere.variables;
+  variable = λ is. is.elsewhere.variables 0 (omega arith) refl;
+  before = beside 0x1005 (omega arith) (omega arith) (inl (omega arith));
+  behind = beside 0x1077 (omega arith) (omega arith) (inr (omega arith));
+  cleared = λ is. between (omega arith) (omega arith) is.cleared;
   other_a = λ is. (let a = is.a in omega (arith, a));
   last = record { a = refl; byte = omega arith; decimal = refl };
   over = λ is. (let byte = is.byte in omega (arith, byte));
@@ -216,7 +318,8 @@ is_again _ = false
 
 started : (holds : ℕ → Bool) → StartsSo holds (began holds 1)
 started holds =
-    init_block_starts (site holds) 4 1 numbers (its_address 1) (called 1 false) (room_is holds) (uses_are holds)
+    init_block_starts (site holds) 4 1 113 numbers (its_address 1) (called 1 false) (room_is holds) (uses_are holds)
+    (clears_are holds 113 its_memory (λ label few. inl (cleared_at holds label few)) (omega arith) (omega arith))
     (record { low = λ set. refl; high = λ set. refl }) (orders_are holds 1 (omega arith))
     (record { a = refl; byte = omega arith; decimal = refl })
 
@@ -264,7 +367,7 @@ bare_any = record {
   timer_low = refl;
   timer_high = refl;
   slides = λ kept. absurd (both_ways false refl kept);
-  others = λ place is. as_before place is.elsewhere.variables ∙ (started nowhere).others place is;
+  others = λ place is. as_before place is.cleared ∙ (started nowhere).others place is;
 }
 
 pub starts_are_worked : StartsAreWorked
@@ -291,15 +394,6 @@ starts_are_worked = record {
   no_timer_high = λ starts. (let byte = starts.timer_high in omega (arith, byte));
   low_slide = λ starts. (let byte = (starts.slides refl 3 (omega arith)).low in omega (arith, byte));
   high_slide = λ starts. (let byte = (starts.slides refl 3 (omega arith)).high in omega (arith, byte));
-  elsewhere = λ starts. (let byte = starts.others 0x1005 (record {
-    elsewhere = record {
-      variables = inl (omega arith);
-      slides_low = λ kept. inl (omega arith);
-      slides_high = λ kept. inl (omega arith);
-      low = λ e. omega (arith, e);
-      high = λ e. omega (arith, e);
-      registers = inl (omega arith);
-    };
-    timer = λ set. inl (omega arith);
-  }) in omega (arith, byte));
+  elsewhere = λ starts. (let byte =
+      starts.others 0x1005 (beside 0x1005 (omega arith) (omega arith) (inl (omega arith))) in omega (arith, byte));
 }

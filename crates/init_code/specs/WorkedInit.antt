@@ -1,19 +1,20 @@
 -- The code that begins a subtune, run by hand: the first subtune and the second, with the timer and without it, and
 -- where no condition holds; what the law on it asks, met there; and what it refuses.
 use Rattle.std.specs.Prelude.{◌≡◌, ℕ, zero, suc, ◌+◌, ◌-◌, ◌*◌, ◌/◌, ◌<◌, ◌&&◌}
-use Rattle.std.specs.Prelude.{◌||◌, Bool, true, false, not, nat_eq}
+use Rattle.std.specs.Prelude.{◌||◌, ◌==◌, Bool, true, false, not, nat_eq}
 use Rattle.std.specs.Prelude.{nat_le, nat_lt, if◌then◌else◌, List, [], ◌∷◌, ◌++◌, replicate}
 use Rattle.code_runs.specs.Runs.{put}
 use Rattle.scopes.specs.Desk.{Desk, Layout}
 use Rattle.scopes.specs.Meaning.{Outcome, Ran, Done, Again, Stuck, each_one, ran}
 use Rattle.player_memory.specs.declared.conditions.TheConstants.{TIMED}
 use Rattle.player_memory.specs.declared.labels.TheConstants.{ORDERS_LOW, ORDERS_HIGH, TICK, VIB_DELAY, VOLUME}
+use Rattle.player_memory.specs.declared.labels.TheConstants.{FIRST_VARIABLE, SLIDES_LOW, SLIDES_HIGH}
 use Rattle.player_memory.specs.Rooms.{IsRoom, MayUse}
 use Rattle.player_memory.specs.WorkedMemory.{at_1000, everywhere, nowhere}
 use Rattle.player_memory.specs.WorkedPlays.{its_desk}
 use Rattle.player_text.specs.declared.texts.Start.{Start}
 use Rattle.player_text.specs.Texts.{init_tree}
-use Rattle.init_code.specs.InitBlock.{MaySetTimer, IsUntouched, IsOrderByte, HasOrders, IsAtSubtune, Starts}
+use Rattle.init_code.specs.InitBlock.{MayClear, MaySetTimer, IsUntouched, IsOrderByte, HasOrders, IsAtSubtune, Starts}
 
 -- ---- the site
 
@@ -52,7 +53,13 @@ abbrev pub numbers : Start
 numbers = record { tempo = 5; funk = 8; timer_low = 0x25; timer_high = 0x40 }
 
 abbrev pub began : (ℕ → Bool) → ℕ → Ran
-began holds subtune = ran each_one (site holds) (init_tree numbers) (called subtune false)
+began holds subtune = ran each_one (site holds) (init_tree numbers 113) (called subtune false)
+
+-- a hundred variables are cleared, and the others are 0 before
+abbrev pub hundred_cleared : Ran
+hundred_cleared = ran each_one (site untimed) (init_tree numbers 100) (record (called 0 false) {
+  at = λ place. if nat_le 0x106A place && nat_lt place 0x1077 then 0 else its_memory place;
+})
 
 -- ---- what it leaves
 
@@ -101,7 +108,7 @@ second_songs = song 0x33 0x14 ++ (song 0x44 0x14 ++ song 0x55 0x14)
 
 -- where the code may not do what it does
 abbrev pub outcome_at : Layout → ℕ → Bool → Outcome
-outcome_at layout subtune decimal = (ran each_one layout (init_tree numbers) (called subtune decimal)).outcome
+outcome_at layout subtune decimal = (ran each_one layout (init_tree numbers 113) (called subtune decimal)).outcome
 
 pub record RunsAreWorked : Type 0 where
   pub first : IsBegun (began untimed 0) (all_variables first_songs) (0x77 ∷ 0x77 ∷ []) 483
@@ -109,6 +116,7 @@ pub record RunsAreWorked : Type 0 where
   pub first_timed : IsBegun (began everywhere 0) (all_variables first_songs) (0x25 ∷ 0x40 ∷ []) 487
   pub second_timed : IsBegun (began everywhere 1) (all_variables second_songs) (0x25 ∷ 0x40 ∷ []) 487
   pub bare : IsBegun (began nowhere 1) (bare_variables second_songs) (0x77 ∷ 0x77 ∷ []) 473
+  pub fewer : IsBegun hundred_cleared (all_variables first_songs) (0x77 ∷ 0x77 ∷ []) 444
   pub decimal : outcome_at (site untimed) 0 true ≡ Stuck
   pub no_timer : outcome_at (record (site everywhere) { may_write = at_1000.may_write }) 0 false ≡ Stuck
   pub no_lists : outcome_at (record (site untimed) { may_read = λ place. nat_lt place 0x1180 }) 0 false ≡ Stuck
@@ -122,34 +130,54 @@ at_timer holds = record (site holds) {
   may_read = λ place. true;
 }
 
+-- with a label elsewhere
+abbrev pub moved_in : Layout → ℕ → ℕ → Layout
+moved_in layout label place =
+    record layout { address = λ other. if nat_eq other label then place else layout.address other }
+
 abbrev pub timer_from : ℕ → Layout
 timer_from place = record (site everywhere) { may_write = λ its. nat_eq its place }
 
 pub record SiteIsWorked : Type 0 where
   pub room : (holds : ℕ → Bool) → IsRoom (site holds) 4
   pub uses : (holds : ℕ → Bool) → MayUse (site holds) 4
+  pub clears : (holds : ℕ → Bool) → MayClear (site holds) 4 113 its_memory
+  -- fewer bytes are enough where the others are 0; there is one at least, and at most 113
+  pub fewer : MayClear (site untimed) 4 100 (λ place. 0)
+  pub not_zero : ¬ MayClear (site untimed) 4 112 its_memory
+  pub none : ¬ MayClear (site untimed) 4 0 (λ place. 0)
+  pub many : ¬ MayClear (site untimed) 4 114 (λ place. 0)
+  -- up to $D000 at most; where they may be written; and beside the slides
+  pub high : ¬ MayClear (record (moved_in (site untimed) FIRST_VARIABLE 0xCF90) { may_write = λ place. true }) 4 113
+      (λ place. 0)
+  pub closed : ¬ MayClear (record (site untimed) { may_write = λ place. not (place == 0x1076) }) 4 113 its_memory
+  pub low_slide : ¬ MayClear (moved_in (site everywhere) SLIDES_LOW 0x1073) 4 113 its_memory
+  pub high_slide : ¬ MayClear (moved_in (site everywhere) SLIDES_HIGH 0x1003) 4 113 its_memory
   pub timer : (holds : ℕ → Bool) → MaySetTimer (site holds)
   pub orders : (holds : ℕ → Bool) (subtune : ℕ) → subtune < 2 →
-      HasOrders (site holds) 4 its_memory subtune (its_address subtune)
+      HasOrders (site holds) 4 113 its_memory subtune (its_address subtune)
   pub at_subtune : IsAtSubtune 1 (called 1 false)
   -- one byte of the timer isn't enough; where it isn't set neither is needed
   pub low_alone : ¬ MaySetTimer (timer_from 0xDC04)
   pub high_alone : ¬ MaySetTimer (timer_from 0xDC05)
   pub no_timer : MaySetTimer (record at_1000 { holds = untimed })
   -- a subtune that isn't in the lists; another address; a byte that may not be read
-  pub third : ¬ HasOrders (site untimed) 4 its_memory 2 (its_address 2)
-  pub other_low : ¬ HasOrders (site untimed) 4 (put its_memory 0x1185 0x54) 1 (its_address 1)
-  pub other_high : ¬ HasOrders (site untimed) 4 (put its_memory 0x1193 0x13) 1 (its_address 1)
-  pub unread : ¬ HasOrders (record (site untimed) { may_read = λ place. nat_lt place 0x1190 }) 4 its_memory 0
+  pub third : ¬ HasOrders (site untimed) 4 113 its_memory 2 (its_address 2)
+  pub other_low : ¬ HasOrders (site untimed) 4 113 (put its_memory 0x1185 0x54) 1 (its_address 1)
+  pub other_high : ¬ HasOrders (site untimed) 4 113 (put its_memory 0x1193 0x13) 1 (its_address 1)
+  pub unread : ¬ HasOrders (record (site untimed) { may_read = λ place. nat_lt place 0x1190 }) 4 113 its_memory 0
       (its_address 0)
   -- a list at the timer, where that is set, and where it isn't
-  pub on_timer : ¬ IsOrderByte (at_timer everywhere) 4 its_memory ORDERS_LOW 0 0x77
-  pub on_no_timer : IsOrderByte (at_timer untimed) 4 its_memory ORDERS_LOW 0 0x77
-  pub before_timer : IsUntouched (site everywhere) 4 0xDC03
-  pub timer_low : ¬ IsUntouched (site everywhere) 4 0xDC04
-  pub timer_high : ¬ IsUntouched (site everywhere) 4 0xDC05
-  pub behind_timer : IsUntouched (site everywhere) 4 0xDC06
-  pub variable : ¬ IsUntouched (site untimed) 4 0x1006
+  pub on_timer : ¬ IsOrderByte (at_timer everywhere) 4 113 its_memory ORDERS_LOW 0 0x77
+  pub on_no_timer : IsOrderByte (at_timer untimed) 4 113 its_memory ORDERS_LOW 0 0x77
+  pub before_timer : IsUntouched (site everywhere) 4 113 0xDC03
+  pub timer_low : ¬ IsUntouched (site everywhere) 4 113 0xDC04
+  pub timer_high : ¬ IsUntouched (site everywhere) 4 113 0xDC05
+  pub behind_timer : IsUntouched (site everywhere) 4 113 0xDC06
+  pub variable : ¬ IsUntouched (site untimed) 4 113 0x1006
+  pub before : IsUntouched (site everywhere) 4 113 0x1005
+  pub behind : IsUntouched (site everywhere) 4 113 0x1077
+  pub cleared : ¬ IsUntouched (site untimed) 4 120 0x107D
   -- the number's byte, and the decimal flag
   pub other_a : ¬ IsAtSubtune 1 (called 0 false)
   pub last : IsAtSubtune 84 (called 84 false)
@@ -159,7 +187,7 @@ pub record SiteIsWorked : Type 0 where
 -- ---- what it may not leave
 
 abbrev pub StartsSo : (ℕ → Bool) → Ran → Type 0
-StartsSo holds run = Starts (site holds) 4 numbers (its_address 1) (called 1 false) run
+StartsSo holds run = Starts (site holds) 4 113 numbers (its_address 1) (called 1 false) run
 
 -- with another byte at a place
 abbrev pub leaving : Ran → ℕ → ℕ → Ran
@@ -181,9 +209,9 @@ pub record StartsAreWorked : Type 0 where
   pub bare_any : StartsSo nowhere (leaving (leaving (began nowhere 1) (0x1006 + VOLUME) 14) (0x1006 + VIB_DELAY + 7) 9)
   pub bare_own : ¬ StartsSo nowhere (leaving (began nowhere 1) (0x1006 + TICK + 14) 2)
   pub other_subtune : ¬ StartsSo everywhere (began everywhere 0)
-  pub other_tempo : ¬ Starts (site everywhere) 4 (record numbers { tempo = 6 }) (its_address 1) (called 1 false)
+  pub other_tempo : ¬ Starts (site everywhere) 4 113 (record numbers { tempo = 6 }) (its_address 1) (called 1 false)
       (began everywhere 1)
-  pub other_funk : ¬ Starts (site everywhere) 4 (record numbers { funk = 7 }) (its_address 1) (called 1 false)
+  pub other_funk : ¬ Starts (site everywhere) 4 113 (record numbers { funk = 7 }) (its_address 1) (called 1 false)
       (began everywhere 1)
   pub first_register : ¬ StartsSo everywhere (leaving (began everywhere 1) 0xD400 1)
   pub last_register : ¬ StartsSo everywhere (leaving (began everywhere 1) 0xD418 15)

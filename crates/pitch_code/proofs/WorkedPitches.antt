@@ -13,10 +13,19 @@ use Rattle.player_memory.specs.Frequencies.{HasFrequencies}
 use Rattle.pitch_code.specs.WorkedPitches.{from_1000, its_range, with_lists, lending, NotesAreWorked}
 use Rattle.pitch_code.specs.WorkedPitches.{ReturnsAreWorked, OthersAreDenied}
 use Rattle.pitch_code.proofs.Giving.{given_back_block_gives}
+use Rattle.player_memory.proofs.Laws.{InOnePiece, in_one_piece, off_piece, list_behind}
+use Rattle.player_memory.specs.declared.labels.TheConstants.{SLIDES_LOW, SLIDES_HIGH}
+
+piece : InOnePiece from_1000 0x1000
+piece = record {
+  from = omega arith;
+  to = omega arith;
+  each = λ label few. (let e : nat_lt label 113 ≡ true = lt-ltb label 113 few in rw e refl);
+}
 
 elsewhere : (place : ℕ) → 0x2000 ≤ place → place < 0x2300 → IsElsewhere from_1000 0 place
 elsewhere place from to = record {
-  variables = inr (omega (arith, from));
+  variables = off_piece from_1000 0x1000 piece place (inr (omega (arith, from)));
   slides_low = λ kept. inl (omega (arith, to));
   slides_high = λ kept. inl (omega (arith, to));
   low = λ same. omega (arith, same, from);
@@ -91,16 +100,14 @@ notes_are_worked = record {
 
 slides : AreSlides from_1000 0
 slides = record {
-  low = record { from = omega arith; to = omega arith; outside = inr (omega arith) };
-  high = record { from = omega arith; to = omega arith; outside = inr (omega arith) };
+  low = list_behind from_1000 0x1000 piece SLIDES_LOW 0 (omega arith) (omega arith) (omega arith);
+  high = list_behind from_1000 0x1000 piece SLIDES_HIGH 0 (omega arith) (omega arith) (omega arith);
   apart = inl (omega arith);
 }
 
 room : IsRoom from_1000 0
 room = record {
-  begins = omega arith;
-  ends = omega arith;
-  variables = λ label few. (let e : nat_lt label 113 ≡ true = lt-ltb label 113 few in rw e refl);
+  variables = in_one_piece from_1000 0x1000 piece;
   slides = λ kept. slides;
   pointer_low = omega arith;
   pointer_high = omega arith;

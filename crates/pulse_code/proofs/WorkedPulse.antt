@@ -5,6 +5,7 @@ use Rattle.play_model.specs.LookUps.{LookUps}
 use Rattle.player_memory.specs.declared.labels.TheConstants.{PULSE_LEFTS, PULSE_RIGHTS}
 use Rattle.player_memory.specs.Playing.{place_in, IsListed, IsRow}
 use Rattle.pulse_code.specs.WorkedPulse.{worked_layout, worked_rows, PulsesAreWorked, RowsAreWorked}
+use Rattle.player_memory.proofs.Laws.{off_variables}
 
 pub pulses_are_worked : PulsesAreWorked
 pulses_are_worked = record {
@@ -26,7 +27,7 @@ listed : (label number place byte : ℕ) → place_in (worked_layout true) label
     IsListed (worked_layout true) 4 worked_rows label number byte
 listed label number place byte is holds from to = record {
   elsewhere = rw is (record {
-    variables = inr (omega (arith, from));
+    variables = off_variables (worked_layout true) refl place (inr (omega (arith, from)));
     slides_low = λ kept. inr (omega (arith, from));
     slides_high = λ kept. inr (omega (arith, from));
     low = λ e. omega (arith, from, e);

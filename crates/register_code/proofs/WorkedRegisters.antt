@@ -1,24 +1,29 @@
 -- The worked memory, computed by the checker.
-use Rattle.std.proofs.Common.{◌≡◌, Bool, true, false, inl, inr, refl}
+use Rattle.std.proofs.Common.{ℕ, ◌+◌, ◌≡◌, Bool, true, false, inl, inr, refl}
 use Rattle.std.proofs.Common.{sym, ap, arith}
 use Rattle.std.proofs.lemmas.Bool.{true≢false}
 use Rattle.scopes.specs.Meaning.{Outcome, Stuck}
 use Rattle.play_model.specs.Frame.{voice_registers}
 use Rattle.player_memory.specs.Rooms.{IsRoom, MayUse}
-use Rattle.player_memory.proofs.Laws.{playing_in}
+use Rattle.player_memory.proofs.Laws.{playing_in, InOnePiece, in_one_piece, list_behind}
+use Rattle.player_memory.specs.declared.labels.TheConstants.{SLIDES_LOW, SLIDES_HIGH}
+use Rattle.scopes.specs.Desk.{Layout}
 use Rattle.player_memory.specs.Playing.{IsPlaying, IsAtVoice}
 use Rattle.register_code.specs.WorkedRegisters.{from_1000, bare, counting, counted, bare_counted}
 use Rattle.register_code.specs.WorkedRegisters.{RegistersAreWorked, OthersAreDenied}
 use Rattle.register_code.proofs.Sounding.{register_block_writes}
 
+piece : (layout : Layout) → ((label : ℕ) → layout.address label ≡ 0x1000 + label) → InOnePiece layout 0x1000
+piece layout is = record { from = omega arith; to = omega arith; each = λ label few. is label }
+
 room : IsRoom from_1000 0
 room = record {
-  begins = omega arith;
-  ends = omega arith;
-  variables = λ label few. refl;
+  variables = in_one_piece from_1000 0x1000 (piece from_1000 (λ label. refl));
   slides = λ kept. record {
-    low = record { from = omega arith; to = omega arith; outside = inr (omega arith) };
-    high = record { from = omega arith; to = omega arith; outside = inr (omega arith) };
+    low = list_behind from_1000 0x1000 (piece from_1000 (λ label. refl)) SLIDES_LOW 0 (omega arith) (omega arith)
+        (omega arith);
+    high = list_behind from_1000 0x1000 (piece from_1000 (λ label. refl)) SLIDES_HIGH 0 (omega arith) (omega arith)
+        (omega arith);
     apart = inl (omega arith);
   };
   pointer_low = omega arith;
@@ -27,9 +32,7 @@ room = record {
 
 bare_room : IsRoom bare 0
 bare_room = record {
-  begins = omega arith;
-  ends = omega arith;
-  variables = λ label few. refl;
+  variables = in_one_piece bare 0x1000 (piece bare (λ label. refl));
   slides = λ kept. absurd (true≢false (sym kept));
   pointer_low = omega arith;
   pointer_high = omega arith;

@@ -20,6 +20,7 @@ use Rattle.player_desk.proofs.Laws.{Fields, fields_of}
 use Rattle.slide_code.specs.SlideBlock.{HasHalfTones, HasSpeed, IsOf, left_by}
 use Rattle.slide_code.specs.WorkedSlides.{laid, its_range, lists, speeds, SlidesAreWorked, GroundsAreWorked}
 use Rattle.slide_code.specs.WorkedSlides.{OthersAreDenied, RunsAreDenied, looked_up, slid, voice_with, LooksUp}
+use Rattle.player_memory.proofs.Laws.{off_variables}
 
 pub slides_are_worked : SlidesAreWorked
 unfolding freq
@@ -66,7 +67,7 @@ slides_are_worked = record {
 
 elsewhere : (place : ℕ) → 0x2000 ≤ place → place < 0x2300 → IsElsewhere laid 4 place
 elsewhere place from to = record {
-  variables = inr (omega (arith, from));
+  variables = off_variables laid refl place (inr (omega (arith, from)));
   slides_low = λ kept. inr (omega (arith, from));
   slides_high = λ kept. inr (omega (arith, from));
   low = λ same. omega (arith, same, from);

@@ -1,5 +1,5 @@
 -- Between rows a row's length is loaded where the tick has passed 0.
-use Rattle.std.proofs.Common.{◌≡◌, ℕ, ◌+◌, ◌%◌, ◌<◌, ◌≤◌, true, false, nat_le, bit_xor}
+use Rattle.std.proofs.Common.{◌≡◌, ℕ, zero, suc, ◌+◌, ◌%◌, ◌<◌, ◌≤◌, true, false, nat_le, bit_xor}
 use Rattle.std.proofs.Common.{inl, inr, refl, sym, ap, ◌∙◌, arith}
 use Rattle.std.proofs.lemmas.Bool.{leb-true, leb-false, le-leb, cases_lt, both_ways}
 use Rattle.std.proofs.lemmas.Bool.Decides.{eqb_tells}
@@ -58,13 +58,18 @@ abbrev length_tree : Tree
 length_tree = behind (behind (behind (behind (body_of RUNS tick_tree))))
 
 -- the two funk tempos stand one behind the other
-funk_place : (r : Reader) (label number y : ℕ) → IsRoom r.layout r.rows → label ≡ FUNK_ONE + number → label < 113 →
+funk_place : (r : Reader) (label number y : ℕ) → IsRoom r.layout r.rows → number < 2 → label ≡ FUNK_ONE + number →
     y ≡ number → (r.layout.address FUNK_ONE + y) % 65536 ≡ r.layout.address label
-funk_place r label number y room is few e =
-    let one = room.variables FUNK_ONE (omega arith) in
-    let this = room.variables label few in
-    let ends = room.ends in
-    omega (arith, one, this, ends, is, few, e)
+funk_place r label number y room few is e =
+    let ends = room.variables.to FUNK_TWO (omega arith) in
+    let behind = room.variables.funk in
+    let at : r.layout.address (FUNK_ONE + number) ≡ r.layout.address FUNK_ONE + number = by_number number few in
+    rw (e, is) (omega (arith, at, ends, behind, few))
+  where
+    by_number : (n : ℕ) → n < 2 → r.layout.address (FUNK_ONE + n) ≡ r.layout.address FUNK_ONE + n
+    by_number zero few = omega arith
+    by_number (suc zero) few = room.variables.funk
+    by_number (suc (suc more)) few = absurd (omega (arith, few))
 
 turn_leads : (r : Reader) (tempo : ℕ) (s : Playing) (handed : Lent) (d : VoiceDesk) (ways : Ways) (m : VoiceDesk) →
     r.voice < 3 → IsRoom r.layout r.rows → (tempo < 2 → r.layout.holds FUNK_TEMPO ≡ true) → m.a ≡ tempo →
@@ -76,9 +81,9 @@ turn_leads r tempo s handed d ways m few room keeps a done = (
     λ short.
         let below : tempo < 2 = (let z = leb-false 2 m.a short in omega (arith, z, a)) in
         elim (eqb_tells tempo 0) [
-          | inl zero ↦
-              let none : tempo ≡ 0 = zero.1 in
-              OfAll FUNK_ONE refl (funk_place r FUNK_ONE 0 m.a room refl (omega arith) (a ∙ none)) (record {
+          | inl is_zero ↦
+              let none : tempo ≡ 0 = is_zero.1 in
+              OfAll FUNK_ONE refl (funk_place r FUNK_ONE 0 m.a room (omega arith) refl (a ∙ none)) (record {
                 common = with_tempo (r.voice + 1) (bit_xor m.a 1) s.common;
                 tick = s.common.funk_one;
                 done = turned _ refl refl refl;
@@ -88,7 +93,7 @@ turn_leads r tempo s handed d ways m few room keeps a done = (
               })
           | inr some ↦
               let one : tempo ≡ 1 = (let z = some.1 in omega (arith, z, below)) in
-              OfAll FUNK_TWO refl (funk_place r FUNK_TWO 1 m.a room refl (omega arith) (a ∙ one)) (record {
+              OfAll FUNK_TWO refl (funk_place r FUNK_TWO 1 m.a room (omega arith) refl (a ∙ one)) (record {
                 common = with_tempo (r.voice + 1) (bit_xor m.a 1) s.common;
                 tick = s.common.funk_two;
                 done = turned _ refl refl refl;

@@ -58,15 +58,15 @@ settled_ways r look i c p u handed d ways =
 abbrev pub KeepsVibrato : Reader → LookUps → ℕ → Type 0
 KeepsVibrato r look number = HasVibrato (look.instrument number) → r.layout.holds NOTE_VIBRATO ≡ true
 
--- A is 0, and so is the command
+-- there is no command, and A is 0 where its byte is kept
 bare_leads : (r : Reader) (look : LookUps) (number c p : ℕ) (u : Playing) (handed : Lent) (d : VoiceDesk)
-    (ways : Ways) (m : VoiceDesk) → InstrumentAt r look number → KeepsVibrato r look number → c ≡ 0 → m.a ≡ 0 →
-    Ticking number r u handed d m →
+    (ways : Ways) (m : VoiceDesk) → InstrumentAt r look number → KeepsVibrato r look number → c ≡ 0 →
+    (r.layout.holds EFFECTS ≡ true → m.a ≡ 0) → Ticking number r u handed d m →
     Leads r (rest_of BARE tick_tree) (settled_ways r look (look.instrument number) c p u handed d ways) m
 bare_leads r look number c p u handed d ways m ground keeps none a at = (
   λ on. (
-    λ kept. listed VIBRATOS number vibrato ground.vibrato at.y_is (λ b e. settles _ refl refl refl e),
-    λ out. settles _ refl refl refl (a ∙ sym (none_unkept r.layout NOTE_VIBRATO vibrato keeps out)),
+    λ kept. listed VIBRATOS number vibrato ground.vibrato at.y_is (λ b e. settles _ (a on) refl refl refl e),
+    λ out. settles _ (a on) refl refl refl (a on ∙ sym (none_unkept r.layout NOTE_VIBRATO vibrato keeps out)),
   ),
   λ off.
       let no_command = not_held r EFFECTS (m.own COMMAND) 0 off in
@@ -84,16 +84,16 @@ bare_leads r look number c p u handed d ways m ground keeps none a at = (
     vibrato : ℕ
     vibrato = (look.instrument number).vibrato
 
-    settles : (n : VoiceDesk) → n.own ≡ put m.own COMMAND m.a → n.shared ≡ m.shared → n.sid ≡ m.sid → n.a ≡ vibrato →
-        AtSettled r look (look.instrument number) c p u handed d n
-    settles n own shared sid is =
+    settles : (n : VoiceDesk) → m.a ≡ 0 → n.own ≡ put m.own COMMAND m.a → n.shared ≡ m.shared → n.sid ≡ m.sid →
+        n.a ≡ vibrato → AtSettled r look (look.instrument number) c p u handed d n
+    settles n zero own shared sid is =
         let done : Done r.layout.holds r.voice u handed d m = at.done in
         record {
           v = record u.voice { command = 0 };
           param = vibrato;
           done =
               own_done r.layout.holds r.voice u (record u { voice = record u.voice { command = 0 } }) handed d m n
-              shared sid refl (rw own (assumption (a, done.fields))) (rw own (assumption done.song)) done;
+              shared sid refl (rw own (assumption (zero, done.fields))) (rw own (assumption done.song)) done;
           a = λ on. is;
           is = row_vibrato (r.voice + 1) look (look.instrument number) c p u none;
         }
@@ -170,7 +170,7 @@ settled_leads r look number c p u handed d ways m ground keeps vibrato shared co
           let command : m.own NEW_COMMAND ≡ c = done.fields.new_command kept ∙ command_is in (
             λ zero.
                 let none : m.own NEW_COMMAND ≡ 0 = eqb-true (m.own NEW_COMMAND) 0 zero in
-                bare (loaded (m.own NEW_COMMAND) m) (sym command ∙ none) none refl refl refl refl,
+                bare (loaded (m.own NEW_COMMAND) m) (sym command ∙ none) (λ on. none) refl refl refl refl,
             λ not_zero.
                 let some : c ≢ 0 = λ none. eqb-false (m.own NEW_COMMAND) 0 not_zero (command ∙ none) in (
                   λ kept_once. (
@@ -191,14 +191,16 @@ settled_leads r look number c p u handed d ways m ground keeps vibrato shared co
                 ),
           ),
       λ out.
-          let none : c ≡ 0 = no_command out in
-          bare (loaded 0 m) none refl refl refl refl refl,
+          let none : c ≡ 0 = no_command out in (
+            λ on. bare (loaded 0 m) none (λ on. refl) refl refl refl refl,
+            λ off. bare m none (λ on. absurd (both_ways (r.layout.holds EFFECTS) off on)) refl refl refl refl,
+          ),
     )
   where
     i : Instrument
     i = look.instrument number
 
-    bare : (n : VoiceDesk) → c ≡ 0 → n.a ≡ 0 → n.own ≡ m.own → n.shared ≡ m.shared → n.sid ≡ m.sid → n.y ≡ m.y →
+    bare : (n : VoiceDesk) → c ≡ 0 → (r.layout.holds EFFECTS ≡ true → n.a ≡ 0) → n.own ≡ m.own → n.shared ≡ m.shared → n.sid ≡ m.sid → n.y ≡ m.y →
         Leads r (rest_of BARE tick_tree) (settled_ways r look i c p u handed d ways) n
     bare n none a own shared sid y =
         bare_leads r look number c p u handed d ways n ground vibrato none a

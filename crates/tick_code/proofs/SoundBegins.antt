@@ -20,7 +20,7 @@ use Rattle.player_text.specs.declared.tick.TheConstants.{MASKED, NO_PULSE, NO_FI
 use Rattle.scopes.specs.Trees.{Tree}
 use Rattle.tick_code.specs.TickBlock.{tick_tree, KeepsInstrument}
 use Rattle.command_code.proofs.Laws.{shared_done, tempos_kept}
-use Rattle.tick_code.proofs.Pieces.{first_of, behind, sound_tree}
+use Rattle.tick_code.proofs.Pieces.{first_of, behind, chosen, sound_tree}
 use Rattle.tick_code.proofs.TickDesks.{Ticking, ticking_as, done_as_is, none_unkept, not_held, if_so, if_not}
 use Rattle.tick_code.proofs.TickGrounds.{InstrumentAt}
 use Rattle.tick_code.proofs.NoteRules.{noted, wave_same, wave_mask, wave_plain}
@@ -177,11 +177,12 @@ filter_leads r look number s handed d ways m ground at =
     ))
 
 -- the time of a delay, and the command and its parameter
-abbrev timed_tree : Tree
-timed_tree = behind sound_tree
+-- the two sides of the first line
+abbrev effects_tree : Tree
+effects_tree = behind (chosen (first_of sound_tree))
 
 abbrev effect_tree : Tree
-effect_tree = behind timed_tree
+effect_tree = behind effects_tree
 
 abbrev pulse_tree : Tree
 pulse_tree = rest_of MASKED tick_tree
@@ -229,7 +230,7 @@ begun_leads : (r : Reader) (look : LookUps) (number waits : ℕ) (s : Playing) (
     ((n : VoiceDesk) → Ticking number r (sounding (look.instrument number) s) handed d n → Q n) →
     InstrumentAt r look number → KeepsInstrument r.layout (look.instrument number) waits →
     Ticking number r (waved (note_taken (look.instrument number) s.voice) s) handed d m →
-    Leads r (behind effect_tree) (in_scope TAKEN (done_as Q ways)) m
+    Leads r (behind sound_tree) (in_scope TAKEN (done_as Q ways)) m
 begun_leads r look number waits s handed d ways Q m into ground keeps at =
     joined true r MASKED (body_of MASKED tick_tree) pulse_tree (Ticking number r first handed d) goal m
     (masked_leads r look number s (note_taken i s.voice) handed d goal m ground keeps.mask at) pulses
@@ -271,6 +272,29 @@ begun_leads r look number waits s handed d ways Q m into ground keeps at =
           (no_pulse i first (none_unkept r.layout NOTE_PULSE i.pulse keeps.pulse out)) at),
     )
 
+-- a delay of the wave program begins anew, or there is none
+delay_begun : (number : ℕ) (r : Reader) (s : Playing) (handed : Lent) (d m n : VoiceDesk) →
+    Ticking number r s handed d m → n.own ≡ put m.own WAVE_TIME 0 → n.shared ≡ m.shared → n.sid ≡ m.sid → n.y ≡ m.y →
+    Ticking number r (waved s.voice s) handed d n
+delay_begun number r s handed d m n at own shared sid y =
+    let done : Done r.layout.holds r.voice s handed d m = at.done in record {
+      done =
+          own_done r.layout.holds r.voice s (waved s.voice s) handed d m n shared sid refl
+          (rw own (assumption done.fields)) (rw own (assumption done.song)) done;
+      y_is = y ∙ at.y_is;
+    }
+
+no_delay : (number : ℕ) (r : Reader) (s : Playing) (handed : Lent) (d m : VoiceDesk) →
+    r.layout.holds WAVE_DELAY ≡ false → Ticking number r s handed d m → Ticking number r (waved s.voice s) handed d m
+no_delay number r s handed d m off at =
+    let done : Done r.layout.holds r.voice s handed d m = at.done in
+    let untimed = not_held r WAVE_DELAY (m.own WAVE_TIME) 0 off in record {
+      done =
+          own_done r.layout.holds r.voice s (waved s.voice s) handed d m m refl refl refl
+          (assumption (untimed, done.fields)) (assumption done.song) done;
+      y_is = at.y_is;
+    }
+
 -- A is 0, and a delay of the wave program begins anew
 record AtTimed (number : ℕ) (r : Reader) (s : Playing) (handed : Lent) (d m : VoiceDesk) : Type 0 where
   at : Ticking number r (waved s.voice s) handed d m
@@ -278,28 +302,11 @@ record AtTimed (number : ℕ) (r : Reader) (s : Playing) (handed : Lent) (d m : 
 
 timed_leads : (r : Reader) (number : ℕ) (s : Playing) (handed : Lent) (d : VoiceDesk) (ways : Ways) (m : VoiceDesk) →
     m.a ≡ 0 → Ticking number r s handed d m →
-    Leads r (first_of timed_tree) (done_as (AtTimed number r s handed d) ways) m
+    Leads r (first_of effects_tree) (done_as (AtTimed number r s handed d) ways) m
 timed_leads r number s handed d ways m zero at =
     let done : Done r.layout.holds r.voice s handed d m = at.done in (
-      λ on. record {
-        at = record {
-          done =
-              own_done r.layout.holds r.voice s (waved s.voice s) handed d m _ refl refl refl
-              (assumption (zero, done.fields)) (assumption done.song) done;
-          y_is = at.y_is;
-        };
-        a = zero;
-      },
-      λ off.
-          let untimed = not_held r WAVE_DELAY (m.own WAVE_TIME) 0 off in record {
-            at = record {
-              done =
-                  own_done r.layout.holds r.voice s (waved s.voice s) handed d m m refl refl refl
-                  (assumption (untimed, done.fields)) (assumption done.song) done;
-              y_is = at.y_is;
-            };
-            a = zero;
-          },
+      λ on. record { at = delay_begun number r s handed d m _ at (ap (put m.own WAVE_TIME) zero) refl refl refl; a = zero },
+      λ off. record { at = no_delay number r s handed d m off at; a = zero },
     )
 
 -- the note has no command, and for its parameter the instrument's vibrato
@@ -307,28 +314,17 @@ effect_leads : (r : Reader) (look : LookUps) (number waits : ℕ) (s : Playing) 
     (ways : Ways) (m : VoiceDesk) → InstrumentAt r look number →
     KeepsInstrument r.layout (look.instrument number) waits →
     AtTimed number r (noted (look.instrument number) s) handed d m →
-    Leads r (first_of effect_tree)
+    Leads r effect_tree
     (done_as (Ticking number r (waved (note_taken (look.instrument number) s.voice) s) handed d) ways) m
 effect_leads r look number waits s handed d ways m ground keeps timed = (
-  λ on. (
-    λ kept.
-        listed VIBRATOS number vibrato ground.vibrato timed.at.y_is
-        (λ b e. record { done = begun _ b e refl refl refl; y_is = timed.at.y_is }),
-    λ out. record {
-      done =
-          begun _ m.a (timed.a ∙ sym (none_unkept r.layout NOTE_VIBRATO vibrato keeps.vibrato out)) refl refl refl;
-      y_is = timed.at.y_is;
-    },
-  ),
-  λ off.
-      let no_command = not_held r EFFECTS (m.own COMMAND) 0 off in
-      let no_param = not_held r EFFECTS (m.own PARAM) vibrato off in
-      let done : Done r.layout.holds r.voice before handed d m = timed.at.done in record {
-        done =
-            own_done r.layout.holds r.voice before after handed d m m refl refl refl
-            (assumption (no_command, no_param, done.fields)) (assumption done.song) done;
-        y_is = timed.at.y_is;
-      },
+  λ kept.
+      listed VIBRATOS number vibrato ground.vibrato timed.at.y_is
+      (λ b e. record { done = begun _ b e refl refl refl; y_is = timed.at.y_is }),
+  λ out. record {
+    done =
+        begun _ m.a (timed.a ∙ sym (none_unkept r.layout NOTE_VIBRATO vibrato keeps.vibrato out)) refl refl refl;
+    y_is = timed.at.y_is;
+  },
 )
   where
     i : Instrument
@@ -351,6 +347,20 @@ effect_leads r look number waits s handed d ways m ground keeps timed = (
         own_done r.layout.holds r.voice before after handed d m n shared sid refl
         (rw own (assumption (zero, e, done.fields))) (rw own (assumption done.song)) done
 
+-- where no command may run the note has none, whatever its bytes are
+no_effect : (number : ℕ) (r : Reader) (i : Instrument) (s : Playing) (handed : Lent) (d m : VoiceDesk) →
+    r.layout.holds EFFECTS ≡ false → Ticking number r (waved (noted i s).voice (noted i s)) handed d m →
+    Ticking number r (waved (note_taken i s.voice) s) handed d m
+no_effect number r i s handed d m off at =
+    let no_command = not_held r EFFECTS (m.own COMMAND) 0 off in
+    let no_param = not_held r EFFECTS (m.own PARAM) i.vibrato off in
+    let done : Done r.layout.holds r.voice (waved (noted i s).voice (noted i s)) handed d m = at.done in record {
+      done =
+          own_done r.layout.holds r.voice (waved (noted i s).voice (noted i s)) (waved (note_taken i s.voice) s) handed d
+          m m refl refl refl (assumption (no_command, no_param, done.fields)) (assumption done.song) done;
+      y_is = at.y_is;
+    }
+
 pub sound_leads : (r : Reader) (look : LookUps) (number waits : ℕ) (s : Playing) (handed : Lent) (d : VoiceDesk)
     (ways : Ways) (Q : VoiceDesk → Type 0) (m : VoiceDesk) →
     ((n : VoiceDesk) → Ticking number r (sounding (look.instrument number) s) handed d n → Q n) →
@@ -358,19 +368,29 @@ pub sound_leads : (r : Reader) (look : LookUps) (number waits : ℕ) (s : Playin
     Ticking number r (noted (look.instrument number) s) handed d m →
     Leads r sound_tree (in_scope TAKEN (done_as Q ways)) m
 sound_leads r look number waits s handed d ways Q m into ground keeps at =
-    goes_on true r (first_of timed_tree) effect_tree (AtTimed number r (noted i s) handed d) goal (loaded 0 m)
-    (timed_leads r number (noted i s) handed d goal (loaded 0 m) refl (record {
-      done = done_over r.layout.holds r.voice (noted i s) handed d m _ refl refl refl at.done;
-      y_is = at.y_is;
-    }))
-    (λ n timed.
-    goes_on true r (first_of effect_tree) (behind effect_tree)
-    (Ticking number r (waved (note_taken i s.voice) s) handed d) goal n
-    (effect_leads r look number waits s handed d goal n ground keeps timed)
-    (λ k at. begun_leads r look number waits s handed d ways Q k into ground keeps at))
+    goes_on true r (first_of sound_tree) (behind sound_tree)
+    (Ticking number r (waved (note_taken i s.voice) s) handed d) goal m (
+      λ on.
+          goes_on true r (first_of effects_tree) effect_tree (AtTimed number r (noted i s) handed d) taken (loaded 0 m)
+          (timed_leads r number (noted i s) handed d taken (loaded 0 m) refl (record {
+            done = done_over r.layout.holds r.voice (noted i s) handed d m _ refl refl refl at.done;
+            y_is = at.y_is;
+          }))
+          (λ n timed. effect_leads r look number waits s handed d goal n ground keeps timed),
+      λ off. (
+        λ delay.
+            no_effect number r i s handed d _ off
+            (delay_begun number r (noted i s) handed d m _ at refl refl refl refl),
+        λ none. no_effect number r i s handed d m off (no_delay number r (noted i s) handed d m none at),
+      ),
+    )
+    (λ k at. begun_leads r look number waits s handed d ways Q k into ground keeps at)
   where
     i : Instrument
     i = look.instrument number
 
     goal : Ways
     goal = in_scope TAKEN (done_as Q ways)
+
+    taken : Ways
+    taken = done_as (Ticking number r (waved (note_taken i s.voice) s) handed d) goal

@@ -1,8 +1,8 @@
 -- The row that is worked by hand.
-use Rattle.std.proofs.Common.{◌≡◌, ℕ, zero, suc, ◌+◌, ◌<◌, ◌≤◌, Bool, true, false, nat_eq, nat_lt}
+use Rattle.std.proofs.Common.{◌≡◌, ℕ, zero, suc, ◌+◌, ◌*◌, ◌%◌, ◌<◌, ◌≤◌, Bool, true, false, nat_eq, nat_lt}
 use Rattle.std.proofs.Common.{inl, inr, refl, sym}
 use Rattle.std.proofs.Common.{ap, subst, arith}
-use Rattle.std.proofs.lemmas.Bool.{lt-ltb, true≢false, both_ways}
+use Rattle.std.proofs.lemmas.Bool.{lt-ltb, ltb-true, and_parts, true≢false, both_ways}
 use Rattle.play_model.specs.TickStep.{tempo_of, tick_step, at_row as done_at_row, note_started, row_command}
 use Rattle.scopes.specs.Meaning.{Outcome, Left}
 use Rattle.player_memory.specs.declared.labels.TheConstants.{TEMPO, ADS, SRS, WAVES, PULSES, FILTERS, VIBRATOS, DELAYS}
@@ -20,10 +20,15 @@ abbrev is_left : ℕ → Outcome → Bool
 is_left name (Left other) = nat_eq other name
 is_left name _ = false
 
+in_one_piece : (label : ℕ) → label < 113 → laid.address label ≡ 0x1000 + label
+in_one_piece label few =
+    let z : nat_lt label 113 ≡ true = lt-ltb label 113 few in
+    rw z refl
+
 -- a place between the variables and the registers
 elsewhere : (place : ℕ) → 0x2000 ≤ place → place < 0xD000 → IsElsewhere laid 1 place
 elsewhere place from to = record {
-  variables = inr (omega (arith, from));
+  variables = λ label few e. (let at = in_one_piece label few in omega (arith, at, from, few, e));
   slides_low = λ kept. absurd (true≢false (sym kept));
   slides_high = λ kept. absurd (true≢false (sym kept));
   low = λ e. absurd (omega (arith, from, e));
@@ -33,18 +38,24 @@ elsewhere place from to = record {
 
 room : IsRoom laid 1
 room = record {
-  begins = omega arith;
-  ends = omega arith;
-  variables = λ label few. in_one_piece label few;
+  variables = record {
+    from = λ label few. (let at = in_one_piece label few in omega (arith, at));
+    to = λ label few. (let at = in_one_piece label few in omega (arith, at, few));
+    apart = λ one two few less e.
+        let at = in_one_piece one few in
+        let its = in_one_piece two less in
+        omega (arith, at, its, e);
+    voices = λ label voice own few.
+        let small = ltb-true label 90 (and_parts (nat_lt label 90) (nat_lt (label % 21) 7) own).0 in
+        let at = in_one_piece label (omega (arith, small)) in
+        let its = in_one_piece (label + 7 * voice) (omega (arith, small, few)) in
+        omega (arith, at, its);
+    funk = refl;
+  };
   slides = λ kept. absurd (true≢false (sym kept));
   pointer_low = omega arith;
   pointer_high = omega arith;
 }
-  where
-    in_one_piece : (label : ℕ) → label < 113 → laid.address label ≡ laid.address 0 + label
-    in_one_piece label few =
-        let z : nat_lt label 113 ≡ true = lt-ltb label 113 few in
-        rw z refl
 
 uses : MayUse laid 1
 uses = record {

@@ -30,12 +30,12 @@ use Rattle.player_memory.specs.Playing.{IsListed, IsTable, IsPlaying, IsAtVoice,
 abbrev pub tick_tree : Tree
 tick_tree = ThenTree (ScopeTree TICKED step_tree) NoneTree
 
--- In a scope that it leaves where a note has started it has lines; they take 381 bytes where all are kept, and 86
+-- In a scope that it leaves where a note has started it has lines; they take 381 bytes where all are kept, and 82
 -- where none are that stand under a condition.
 pub record TickBlockHasLines : Type 0 where
   pub has : has_lines nothing_around (ScopeTree SOUNDS tick_tree) ≡ true
   pub all : size (λ condition. true) tick_tree ≡ 381
-  pub least : size (λ condition. false) tick_tree ≡ 86
+  pub least : size (λ condition. false) tick_tree ≡ 82
 
 -- ---- what is kept
 

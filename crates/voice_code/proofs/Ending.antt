@@ -41,9 +41,7 @@ SameBelow one two = (place : ℕ) → place < 0xD000 → two place ≡ one place
 variables_same : (layout : Layout) (rows : ℕ) (one two : ℕ → ℕ) → IsRoom layout rows → SameBelow one two →
     SameVariables layout one two
 variables_same layout rows one two room same label few =
-    let at = room.variables label few in
-    let ends = room.ends in
-    same (layout.address label) (omega (arith, at, ends, few))
+    same (layout.address label) (room.variables.to label few)
 
 song_same : (layout : Layout) (one two : ℕ → ℕ) (voice : ℕ) → SameVariables layout one two → voice < 3 →
     AreSame SONG_BYTES (own_at layout two voice) (own_at layout one voice)

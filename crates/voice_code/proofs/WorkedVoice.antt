@@ -5,6 +5,7 @@ use Rattle.play_model.specs.LookUps.{LookUps}
 use Rattle.player_memory.specs.Rooms.{IsElsewhere}
 use Rattle.player_memory.specs.declared.labels.TheConstants.{TICK}
 use Rattle.voice_code.specs.WorkedVoice.{bare, VoicesAreWorked, OthersAreDenied}
+use Rattle.player_memory.proofs.Laws.{off_variables}
 
 pub voices_are_worked : VoicesAreWorked
 voices_are_worked = record {
@@ -35,7 +36,7 @@ voices_are_worked = record {
 -- a place between the variables and the registers
 free : IsElsewhere bare 4 0x2000
 free = record {
-  variables = inr (omega arith);
+  variables = off_variables bare refl 0x2000 (inr (omega arith));
   slides_low = λ kept. absurd (cc);
   slides_high = λ kept. absurd (cc);
   low = λ e. omega (arith, e);

@@ -7,6 +7,7 @@ use Rattle.player_memory.specs.declared.labels.TheConstants.{WAVE_LEFTS, WAVE_RI
 use Rattle.player_memory.specs.Playing.{place_in, IsListed, IsRow}
 use Rattle.wave_code.specs.WorkedWave.{its_rows, worked_layout, worked_rows, WavesAreWorked, RowsAreWorked}
 use Rattle.player_memory.specs.Forms.{stored}
+use Rattle.player_memory.proofs.Laws.{off_variables}
 
 pub waves_are_worked : WavesAreWorked
 waves_are_worked = record {
@@ -100,7 +101,7 @@ listed : (label number place byte : ℕ) → place_in (worked_layout true) label
     IsListed (worked_layout true) 4 worked_rows label number byte
 listed label number place byte is holds from to = record {
   elsewhere = rw is (record {
-    variables = inr (omega (arith, from));
+    variables = off_variables (worked_layout true) refl place (inr (omega (arith, from)));
     slides_low = λ kept. inr (omega (arith, from));
     slides_high = λ kept. inr (omega (arith, from));
     low = λ e. omega (arith, from, e);

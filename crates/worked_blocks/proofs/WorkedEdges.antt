@@ -23,6 +23,7 @@ use Rattle.worked_blocks.specs.WorkedEdges.{with_pattern, anywhere, bytes_from, 
 use Rattle.worked_blocks.specs.WorkedEdges.{IsAt, ItIsAt, named, filled, IsFilled, OrdersAreWorked}
 use Rattle.worked_blocks.specs.WorkedEdges.{PatternsAreWorked, EdgesAreWorked}
 use Rattle.worked_blocks.proofs.WorkedGrounds.{its_spelling}
+use Rattle.player_memory.proofs.Laws.{off_variables}
 
 laid : (first : ℕ) (reads : ℕ → Bool) → IsLaid (with_pattern first reads)
 laid first reads = record { variables = refl; low = refl; high = refl; pointer = refl }
@@ -129,7 +130,7 @@ pattern_stands look first bytes rows spells few from to fit clear before = recor
 -- what code leaves: places in page 0 below the pointer, behind the slides, and at the end of memory
 below_pointer : (first place : ℕ) → place < 0xFC → IsElsewhere (with_pattern first anywhere) 4 place
 below_pointer first place few = record {
-  variables = inl (omega (arith, few));
+  variables = off_variables (with_pattern first anywhere) refl place (inl (omega (arith, few)));
   slides_low = λ kept. inl (omega (arith, few));
   slides_high = λ kept. inl (omega (arith, few));
   low = λ e. omega (arith, few, e);
@@ -139,7 +140,7 @@ below_pointer first place few = record {
 
 last_place : (first : ℕ) → IsElsewhere (with_pattern first anywhere) 4 0xFFFF
 last_place first = record {
-  variables = inr (omega arith);
+  variables = off_variables (with_pattern first anywhere) refl 0xFFFF (inr (omega arith));
   slides_low = λ kept. inr (omega arith);
   slides_high = λ kept. inr (omega arith);
   low = λ e. omega (arith, e);

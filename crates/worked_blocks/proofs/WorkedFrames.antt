@@ -1,5 +1,6 @@
 -- What the definitions of the two entrances take, and what they refuse.
-use Rattle.std.proofs.Common.{◌≡◌, ◌⊎◌, ℕ, ◌+◌, ◌%◌, ◌<◌, ◌≤◌, Bool, if◌then◌else◌}
+use Rattle.std.proofs.Common.{◌≡◌, ◌⊎◌, ℕ, ◌+◌, ◌-◌, ◌%◌, ◌<◌, ◌≤◌, Bool, if◌then◌else◌}
+use Rattle.std.proofs.Common.{List, [], ◌∷◌, ◌++◌, slice_index}
 use Rattle.std.proofs.Common.{Option, Some, None, inl, inr, refl, sym, ap, ◌∙◌, arith, nat_eq, nat_le}
 use Rattle.std.proofs.lemmas.Bool.{or_cases, leb-true, eqb-true}
 use Rattle.code_runs.specs.Runs.{put}
@@ -8,16 +9,18 @@ use Rattle.play_model.specs.declared.options.Options.{Options}
 use Rattle.play_model.specs.State.{FrameState}
 use Rattle.packed_form.specs.declared.packed_songs.PackedSong.{PackedSong}
 use Rattle.scopes.specs.Desk.{Desk, Layout}
-use Rattle.scopes.specs.Trees.{Tree}
+use Rattle.cpu6502.specs.declared.mnemonic.Mnemonic.TheVariants.{Ldx}
+use Rattle.scopes.specs.declared.line.Operand.TheVariants.{Number}
+use Rattle.scopes.specs.Trees.{Tree, ThenTree, ScopeTree, LoopTree, WhenTree, WithTree}
 use Rattle.scopes.specs.Meaning.{Ran}
 use Rattle.player_memory.specs.declared.labels.TheConstants.{TICK, NEW_COMMAND, PULSE_POINTER, VOLUME, ORDER_LOW}
-use Rattle.player_memory.specs.declared.labels.TheConstants.{LENT, KEPT_COMMAND}
+use Rattle.player_memory.specs.declared.labels.TheConstants.{LENT, KEPT_COMMAND, FIRST_VARIABLE}
 use Rattle.player_memory.specs.Playing.{own_at, shared_at, place_in}
 use Rattle.player_memory.specs.SongLists.{list_label, list_byte}
 use Rattle.player_memory.specs.Holds.{order_label}
 use Rattle.player_desk.proofs.Laws.{fields_of, shared_of}
 use Rattle.player_text.specs.declared.texts.Start.{Start}
-use Rattle.player_text.specs.Texts.{voice_tree}
+use Rattle.player_text.specs.Texts.{voice_tree, init_tree}
 use Rattle.kept_lines.specs.Starts.{start_of}
 use Rattle.worked_blocks.specs.WorkedFrames.{EntrancesAreTold, PlacesAreTold, HoldsExactly, FramesExactly}
 use Rattle.worked_blocks.specs.WorkedFrames.{BeginsExactly, ReadyExactly, EntrancesAreExact}
@@ -34,19 +37,36 @@ abbrev label_of : Option ℕ → ℕ
 label_of None = 0
 label_of (Some label) = label
 
-entrances : (label pointer : ℕ) (start : Start) → EntrancesAreTold label pointer start
-entrances label pointer start = record {
+-- the numbers that are loaded in X
+abbrev x_loads : Tree → List ℕ
+x_loads (ThenTree first rest) = x_loads first ++ x_loads rest
+x_loads (ScopeTree name body) = x_loads body
+x_loads (LoopTree count body) = x_loads body
+x_loads (WhenTree condition body) = x_loads body
+x_loads (WithTree Ldx (Number number)) = number ∷ []
+x_loads tree = []
+
+-- the second of them tells how many variables there are
+another_count : (start : Start) (variables : ℕ) → 1 ≤ variables →
+    init_tree start variables ≡ init_tree start (variables + 1) → ⊥
+another_count start variables some e =
+    let same : variables - 1 ≡ variables + 1 - 1 = ap (λ tree. slice_index (x_loads tree) 1) e in
+    omega (arith, same, some)
+
+entrances : (label pointer variables : ℕ) (start : Start) → EntrancesAreTold label pointer variables start
+entrances label pointer variables start = record {
   frames = record { first = refl; voice = refl; stored = refl };
-  storing = λ plays. no_label LENT plays.stored;
+  storing = λ plays. no_label FIRST_VARIABLE plays.stored;
   alone = λ plays. no_tree voice_tree (sym plays.voice);
   beginnings = record { first = refl; voice = refl; stored = refl };
+  another = λ some begins. another_count start variables some begins.first;
   elsewhere = λ begins. other_label begins.stored;
-  nowhere = λ begins. no_label LENT (sym begins.stored);
+  nowhere = λ begins. no_label FIRST_VARIABLE (sym begins.stored);
   voices = λ begins. no_tree voice_tree begins.voice;
 }
   where
-    other_label : Some KEPT_COMMAND ≡ Some LENT → ⊥
-    other_label e = let same : KEPT_COMMAND ≡ LENT = ap label_of e in omega (arith, same)
+    other_label : Some KEPT_COMMAND ≡ Some FIRST_VARIABLE → ⊥
+    other_label e = let same : KEPT_COMMAND ≡ FIRST_VARIABLE = ap label_of e in omega (arith, same)
 
 -- ---- states and calls
 
@@ -101,9 +121,9 @@ frames layout packed o k x before run = record {
   elsewhere = λ place away off plays. not_put run.desk.at place (before.at place) (plays.elsewhere place away off);
 }
 
-beginnings : (layout : Layout) (packed : PackedSong) (o : Options) (k : ℕ) (before : Desk) (run : Ran) →
-    BeginsExactly layout packed o k before run
-beginnings layout packed o k before run = record {
+beginnings : (layout : Layout) (packed : PackedSong) (o : Options) (k variables : ℕ) (before : Desk) (run : Ran) →
+    BeginsExactly layout packed o k variables before run
+beginnings layout packed o k variables before run = record {
   ends = λ outcome other begins. other begins.ends;
   register = λ register few begins. not_put run.desk.at (0xD400 + register) 0 (begins.registers register few);
   timer_low = λ timed begins.

@@ -1,8 +1,8 @@
 -- A packed song of one note in memory, worked by hand.
-use Rattle.std.proofs.Common.{◌≡◌, ℕ, zero, suc, ◌+◌, ◌-◌, ◌<◌, ◌≤◌, ◌&&◌, Bool}
+use Rattle.std.proofs.Common.{◌≡◌, ◌⊎◌, ℕ, zero, suc, ◌+◌, ◌-◌, ◌<◌, ◌≤◌, ◌&&◌, Bool}
 use Rattle.std.proofs.Common.{true, nat_eq, nat_le, nat_lt, inl, inr, refl, sym, ap, ◌∙◌, arith}
 use Rattle.std.proofs.lemmas.Bool.Decides.{nat_tests}
-use Rattle.std.proofs.lemmas.Bool.{and_parts, leb-true, ltb-true, eqb-true, agree_below, agree_below_at}
+use Rattle.std.proofs.lemmas.Bool.{and_parts, leb-true, ltb-true, eqb-true, agree_below, agree_below_at, cases_lt}
 use Rattle.song_model.specs.LookUp.{table_row, instrument_at, playable_subtune}
 use Rattle.song_model.specs.declared.tables.TableName.TheVariants.{Wave, Pulse, Filter, Speed}
 use Rattle.play_model.specs.Freq.{freq}
@@ -13,24 +13,34 @@ use Rattle.code_runs.specs.Runs.{put}
 use Rattle.scopes.specs.Desk.{Desk}
 use Rattle.packed_form.specs.Unpacked.{unpacked_song}
 use Rattle.cpu6502.specs.declared.memory.TheConstants.{MEMORY_SIZE}
-use Rattle.player_memory.specs.declared.labels.TheConstants.{SLIDES_LOW, SLIDES_HIGH, ORDERS}
+use Rattle.player_memory.specs.declared.labels.TheConstants.{SLIDES_LOW, SLIDES_HIGH, ORDERS, VARIABLES}
 use Rattle.player_memory.specs.Holds.{IsPlayerLayout, PatternStands}
 use Rattle.player_memory.specs.Rooms.{IsRoom, IsElsewhere, MayUse, MayUseSlide}
 use Rattle.player_memory.specs.Playing.{place_in, IsListed}
 use Rattle.player_memory.specs.SongLists.{SongList, FrequencyLows, FrequencyHighs, Lefts, Rights, Periods, Instruments}
 use Rattle.player_memory.specs.SongLists.{OrderLows, OrderHighs, PatternLows, PatternHighs, OrderBytes, PatternBytes}
 use Rattle.player_memory.specs.SongLists.{HasNumber, HasSongLists, list_label, list_byte, ListsStand}
-use Rattle.frame_code.specs.InitBlock.{IsCalledWith}
-use Rattle.worked_blocks.specs.WorkedNote.{note_packed, note_layout, note_memory, note_desk, NoteIsLaid, NoteBegins}
-use Rattle.worked_blocks.specs.WorkedNote.{NoteTurns, NotesAreWorked}
+use Rattle.init_code.specs.InitBlock.{IsOutOf}
+use Rattle.frame_code.specs.InitBlock.{IsCalledWith, ClearsVariables}
+use Rattle.worked_blocks.specs.WorkedNote.{note_packed, note_layout, mixed_layout, note_memory, note_desk, NoteIsLaid}
+use Rattle.worked_blocks.specs.WorkedNote.{NoteBegins, NoteTurns, NotesAreWorked}
 use Rattle.frame_code.proofs.Laws.{beginnings_start}
+use Rattle.player_memory.proofs.Laws.{InOnePiece, in_one_piece, off_piece, list_behind}
 
 -- ---- places
 
 -- from $2000 on and below the registers no place is one of the room's
+piece : InOnePiece note_layout 0x1000
+piece = record {
+  from = omega arith;
+  to = omega arith;
+  each = λ label few. eqb-true _ _
+      (agree_below_at (λ l. nat_eq (note_layout.address l) (0x1000 + l)) (λ _. true) 113 label refl few);
+}
+
 elsewhere_at : (place : ℕ) → 0x2000 ≤ place → place < 0xD400 → IsElsewhere note_layout 1 place
 elsewhere_at place from to = record {
-  variables = inr (omega (arith, from));
+  variables = off_piece note_layout 0x1000 piece place (inr (omega (arith, from)));
   slides_low = λ kept. inr (omega (arith, from));
   slides_high = λ kept. inr (omega (arith, from));
   low = λ e. omega (arith, from, e);
@@ -177,18 +187,12 @@ song_lists any = record {
 
 -- ---- the layout
 
-variable_at : (label : ℕ) → label < 113 → note_layout.address label ≡ 0x1000 + label
-variable_at label few = eqb-true _ _
-    (agree_below_at (λ l. nat_eq (note_layout.address l) (0x1000 + l)) (λ _. true) 113 label refl few)
-
 room : IsRoom note_layout 1
 room = record {
-  begins = omega arith;
-  ends = omega arith;
-  variables = λ label few. variable_at label few;
+  variables = in_one_piece note_layout 0x1000 piece;
   slides = λ kept. record {
-    low = record { from = omega arith; to = omega arith; outside = inr (omega arith) };
-    high = record { from = omega arith; to = omega arith; outside = inr (omega arith) };
+    low = list_behind note_layout 0x1000 piece SLIDES_LOW 1 (omega arith) (omega arith) (omega arith);
+    high = list_behind note_layout 0x1000 piece SLIDES_HIGH 1 (omega arith) (omega arith) (omega arith);
     apart = inl (omega arith);
   };
   pointer_low = omega arith;
@@ -252,6 +256,74 @@ player_layout any = record {
     }
     patterns (suc (suc more)) few = absurd (omega (arith, few))
 
+-- ---- the variables
+
+-- what is none of them isn't cleared
+out_of : (variables : ℕ) → variables ≤ VARIABLES → (place : ℕ) → IsElsewhere note_layout 1 place →
+    IsOutOf 0x1000 variables place
+out_of variables few place away = elim (cases_lt place 0x1000) [
+  | inl low ↦ inl low
+  | inr from ↦ elim (cases_lt place (0x1000 + variables)) [
+    | inl inside ↦
+        let less : place - 0x1000 < VARIABLES = omega (arith, from, inside, few) in
+        let at = piece.each (place - 0x1000) less in
+        absurd (away.variables (place - 0x1000) less (omega (arith, at, from)))
+    | inr behind ↦ inr behind
+  ]
+]
+
+-- each is cleared, or 0
+each_cleared : (variables label : ℕ) → label < VARIABLES →
+    ((0x1000 ≤ note_layout.address label) × (note_layout.address label < 0x1000 + variables))
+    ⊎ (IsOutOf 0x1000 variables (note_layout.address label) × (note_memory (note_layout.address label) ≡ 0))
+each_cleared variables label few =
+    let at = piece.each label few in
+    let is : note_memory (note_layout.address label) ≡ 0 =
+    eqb-true _ _
+    (agree_below_at (λ l. nat_eq (note_memory (note_layout.address l)) 0) (λ _. true) 113 label refl few) in
+    elim (cases_lt label variables) [
+      | inl inside ↦ inl (omega (arith, at), omega (arith, at, inside))
+      | inr behind ↦ inr (inr (omega (arith, at, behind)), is)
+    ]
+
+clears : (any : PackedSong) (variables : ℕ) → 1 ≤ variables → variables ≤ VARIABLES →
+    ClearsVariables note_layout (note_packed any) variables note_memory
+clears any variables some few = record {
+  clears = record {
+    some = some;
+    few = few;
+    to = omega (arith, few);
+    writes = λ number inside.
+        agree_below_at (λ n. note_layout.may_write (0x1000 + n)) (λ _. true) 113 number refl
+        (omega (arith, inside, few));
+    low = λ kept row inside. inr (omega (arith, few));
+    high = λ kept row inside. inr (omega (arith, few));
+    each = each_cleared variables;
+  };
+  lists = λ list number is has.
+      out_of variables few (place_in note_layout (list_label list) number)
+      (lists_stand any list number is has).elsewhere;
+}
+
+out_of_none : (place : ℕ) → 0x1000 ≤ place → place < 0x1071 → IsOutOf 0x1000 113 place → ⊥
+out_of_none place from to (inl low) = omega (arith, from, low)
+out_of_none place from to (inr high) = omega (arith, to, high)
+
+-- the second variable stands behind the first
+second_is : (at : ℕ → ℕ) →
+    ((0x1000 ≤ 0x1001) × (0x1001 < 0x1001)) ⊎ (IsOutOf 0x1000 1 0x1001 × (at 0x1001 ≡ 0)) → at 0x1001 ≡ 0
+second_is at (inl inside) = let less : 0x1001 < 0x1001 = inside.1 in absurd (omega (arith, less))
+second_is at (inr out) = out.1
+
+no_one : (any : PackedSong) → ¬ ClearsVariables note_layout (note_packed any) 1 (put note_memory 0x1001 1)
+no_one any has =
+    let is : 1 ≡ 0 = second_is (put note_memory 0x1001 1) (has.clears.each 1 (omega arith)) in omega (arith, is)
+
+no_mixed : (any : PackedSong) → ¬ ClearsVariables mixed_layout (note_packed any) VARIABLES note_memory
+no_mixed any has =
+    out_of_none 0x1001 (omega arith) (omega arith)
+    (has.lists (Lefts Wave) 1 tt (record { from = omega arith; to = omega arith }))
+
 -- ---- what it is
 
 no_wave : (any : PackedSong) → ¬ HasSongLists note_layout (note_packed any) (put note_memory 0x2701 0x11)
@@ -293,6 +365,10 @@ laid any = record {
   off_stack = λ place reads. inr (let from = from_read place reads in omega (arith, from));
   timer = record { low = λ timed. refl; high = λ timed. refl };
   off_timer = λ timed place reads. inl (let to = to_read place reads in omega (arith, to));
+  clears = clears any;
+  none = λ has. (let some = has.clears.some in omega (arith, some));
+  one = no_one any;
+  mixed = no_mixed any;
   lists = song_lists any;
   wave = no_wave any;
   first_frequency = no_first any;
@@ -310,10 +386,10 @@ begins : (any : PackedSong) (desk : Desk) (o : Options) → NoteBegins (note_pac
 begins any desk o = record {
   called = called any desk;
   second = λ two. (let few : 1 < 1 = two.stored in omega (arith, few));
-  begins = λ e is.
+  begins = λ variables some few e is.
       let laid = laid any in
-      beginnings_start note_layout (note_packed any) o 0 e (note_desk desk 0) is laid.is_layout laid.timer
-      laid.off_timer (called any desk) laid.lists;
+      beginnings_start note_layout (note_packed any) o 0 variables e (note_desk desk 0) is laid.is_layout laid.timer
+      laid.off_timer (clears any variables some few) (called any desk) laid.lists;
 }
 
 turns : (any : PackedSong) (o : Options) → NoteTurns (note_packed any) o

@@ -122,6 +122,6 @@ pub record FetchesAreWorked : Type 0 where
   pub later : IsFetched (fetched false (at_first 3)) Done 0 1 3 1 0 5
   pub over : IsFetched (fetched false (at_note 1)) Done 0 2 3 1 0 7
   -- the options leave out the pulse step where a row is fetched, and at tick 0 between two patterns
-  pub skips : IsFetched (fetched true (at_first 2)) (Left SOUNDS) 1 2 3 1 0 38
+  pub skips : IsFetched (fetched true (at_first 2)) (Left SOUNDS) 1 2 3 1 0 40
   pub between : IsFetched (fetched true (at_first 0)) (Left SOUNDS) 0 1 3 1 0 15
   pub within : IsFetched (fetched true (in_run 0)) Done 1 2 3 1 0 9

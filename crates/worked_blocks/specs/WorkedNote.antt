@@ -1,6 +1,6 @@
 -- A packed song of one note in memory, worked by hand: a layout of a player, what stands in each of its lists, and
 -- calls that begin its subtune.
-use Rattle.std.specs.Prelude.{◌≡◌, ℕ, ◌+◌, ◌-◌, ◌*◌, ◌/◌, ◌%◌, ◌&&◌, ◌||◌, Bool, true}
+use Rattle.std.specs.Prelude.{◌≡◌, ℕ, ◌+◌, ◌-◌, ◌*◌, ◌/◌, ◌%◌, ◌≤◌, ◌&&◌, ◌||◌, Bool, true}
 use Rattle.std.specs.Prelude.{nat_eq, nat_le, nat_lt}
 use Rattle.std.specs.Prelude.{if◌then◌else◌, List, [], ◌∷◌, slice_index}
 use Rattle.std.proofs.Common.{arith}
@@ -16,12 +16,12 @@ use Rattle.scope_calls.specs.Entrances.{Entrance}
 use Rattle.scope_calls.specs.Meaning.{entrance_ran}
 use Rattle.player_memory.specs.declared.labels.TheConstants.{SLIDES_LOW, SLIDES_HIGH, NEXT_FREQUENCY_LOWS}
 use Rattle.player_memory.specs.declared.labels.TheConstants.{NEXT_FREQUENCY_HIGHS, NEXT_WAVE_LEFTS, NEXT_WAVE_RIGHTS}
-use Rattle.player_memory.specs.declared.labels.TheConstants.{NEXT_PULSE_LEFTS, NEXT_FILTER_LEFTS}
+use Rattle.player_memory.specs.declared.labels.TheConstants.{NEXT_PULSE_LEFTS, NEXT_FILTER_LEFTS, WAVE_LEFTS, VARIABLES}
 use Rattle.player_memory.specs.SongLists.{HasSongLists}
 use Rattle.player_memory.specs.Holds.{IsPlayerLayout, order_in}
 use Rattle.init_code.specs.InitBlock.{MaySetTimer}
 use Rattle.frame_code.specs.FrameBlock.{ReadsOffStack, counts_of, turn_in}
-use Rattle.frame_code.specs.InitBlock.{BeginsSubtunes, ReadsOffTimer, IsCalledWith, BeginsSubtune}
+use Rattle.frame_code.specs.InitBlock.{BeginsSubtunes, ClearsVariables, ReadsOffTimer, IsCalledWith, BeginsSubtune}
 use Rattle.kept_lines.specs.Starts.{start_of}
 
 -- ---- the song
@@ -68,6 +68,12 @@ note_layout = record {
       || nat_eq place 0xDC04 || nat_eq place 0xDC05;
 }
 
+-- the same, but with a table's left sides where the variables are
+abbrev pub mixed_layout : Layout
+mixed_layout = record note_layout {
+  address = λ label. if nat_eq label WAVE_LEFTS then 0x1000 else note_layout.address label;
+}
+
 -- ---- the memory
 
 -- what stands in a page of a list, from its first byte on: of the tables and of the instruments from number 1 on
@@ -111,6 +117,12 @@ pub record NoteIsLaid (packed : PackedSong) : Type 0 where
   pub off_stack : ReadsOffStack note_layout
   pub timer : MaySetTimer note_layout
   pub off_timer : ReadsOffTimer note_layout
+  -- one variable or more can be cleared, since all are 0; not none, nor one alone where the next isn't 0, nor lists
+  pub clears : (variables : ℕ) → 1 ≤ variables → variables ≤ VARIABLES →
+      ClearsVariables note_layout packed variables note_memory
+  pub none : ¬ ClearsVariables note_layout packed 0 note_memory
+  pub one : ¬ ClearsVariables note_layout packed 1 (put note_memory 0x1001 1)
+  pub mixed : ¬ ClearsVariables mixed_layout packed VARIABLES note_memory
   pub lists : HasSongLists note_layout packed note_memory
   -- another byte in a list; as it has 42 bytes, and two more stand in front of the frequencies, these begin at number 44
   pub wave : ¬ HasSongLists note_layout packed (put note_memory 0x2701 0x11)
@@ -124,13 +136,14 @@ pub record NoteIsLaid (packed : PackedSong) : Type 0 where
 abbrev pub note_desk : Desk → ℕ → Desk
 note_desk any number = record { cpu = record any.cpu { a = number }; at = note_memory }
 
--- Called with the number of its one subtune an entrance that begins subtunes begins it, with any options, and memory
--- holds the start state.
+-- Called with the number of its one subtune an entrance that begins subtunes begins it, with any options, however many
+-- variables it clears, and memory holds the start state.
 pub record NoteBegins (packed : PackedSong) (any : Desk) (o : Options) : Type 0 where
   pub called : IsCalledWith packed 0 (note_desk any 0)
   pub second : ¬ IsCalledWith packed 1 (note_desk any 1)
-  pub begins : (e : Entrance) → BeginsSubtunes e (start_of o) →
-      BeginsSubtune note_layout packed o 0 (note_desk any 0) (entrance_ran note_layout e (note_desk any 0))
+  pub begins : (variables : ℕ) → 1 ≤ variables → variables ≤ VARIABLES → (e : Entrance) →
+      BeginsSubtunes e (start_of o) variables →
+      BeginsSubtune note_layout packed o 0 variables (note_desk any 0) (entrance_ran note_layout e (note_desk any 0))
 
 -- It has one instrument, two rows in two of its tables, and one number. The first voice of its first frame comes to its step as it
 -- began, and the second one has the orderlist of pattern 1.
