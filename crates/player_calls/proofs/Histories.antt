@@ -25,7 +25,7 @@ use Rattle.player_calls.proofs.Places.{well_entered}
 use Rattle.player_calls.proofs.Plays.{Ready, read_from, read_low, play_plays, play_returns, play_ready}
 use Rattle.player_calls.proofs.Begins.{init_begins, init_returns, init_ready}
 use Rattle.player_calls.proofs.Loaded.{loaded_ready, some_subtunes, plays_at}
-use Rattle.frame_code.proofs.Laws.{holds_where_read}
+use Rattle.player_calls.proofs.Spared.{moved}
 
 -- ---- machines that agree
 
@@ -69,11 +69,11 @@ ready_moved {packed = packed} {o = o} plan p k i before machine agrees ready =
           ready.play_code;
       init_code = code_is_shared (init_listed plan) before machine well.init (init_agrees plan p before machine agrees)
           ready.init_code;
-      holds = holds_where_read _ packed k (packed_state packed k o i) (slice_index before.memory)
-          (slice_index machine.memory) p.laid.uses
+      holds = λ which.
+          moved plan p k (packed_state packed k o i) (slice_index before.memory) (slice_index machine.memory) which
           (λ place may.
           agrees_at plan p before machine agrees place (read_from plan p place may) (read_low plan p place may))
-          ready.holds;
+          (ready.holds which);
     }
 
 -- ---- where calls have led
@@ -174,7 +174,7 @@ unfolding spot_after
 init_stands_on plan p calls k machine is few stand r = record {
   below = few;
   ready = init_ready plan p k machine stand.ready.play_code stand.ready.init_code
-      (init_begins plan p k machine is few (plays_at plan p k few) stand.ready.holds.lists) r;
+      (init_begins plan p k machine is few (plays_at plan p k few) _ _ stand.ready.holds) r;
 }
 
 -- the image as it is loaded
@@ -206,7 +206,7 @@ stand_after {packed = packed} {o = o} plan p (Init k ∷ earlier) last led =
     (stand_after plan p earlier led.before led.stood) in
     let few = subtune_few plan p k led.made.0 in
     let r = init_returns plan p k machine led.is stand.ready.init_code
-    (init_begins plan p k machine led.is few (plays_at plan p k few) stand.ready.holds.lists) in
+    (init_begins plan p k machine led.is few (plays_at plan p k few) _ _ stand.ready.holds) in
     let here : Called machine plan.origin k led.steps last =
     subst (λ n. Called machine plan.origin n led.steps last) led.made.1 led.called in
     subst (Stand plan packed o (Init k ∷ earlier)) (same_after machine plan.origin k _ _ r.after last r.called here)

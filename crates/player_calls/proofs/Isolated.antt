@@ -21,7 +21,6 @@ use Rattle.scope_lines.specs.Known.{nothing, the_a, the_x, shown, either, known}
 use Rattle.scope_calls.specs.Listed.{Listed, end_at, meant}
 use Rattle.scope_calls.specs.EntranceLaws.{Returns, AreAlike, are_known}
 use Rattle.scope_calls.proofs.Laws.{entrances_are_isolated, listings_stay}
-use Rattle.player_memory.specs.declared.labels.TheConstants.{VARIABLES}
 use Rattle.player_text.specs.declared.texts.Start.{Start}
 use Rattle.player_text.specs.Texts.{filter_tree, voice_tree, init_tree}
 use Rattle.player_text.proofs.Laws.{rest_on_few}
@@ -47,7 +46,7 @@ kind plan p place from to =
     elim (cases_lt place (plan.origin + 6)) [
       | inl jump ↦ inr (record { is = inl (from, jump) })
       | inr behind ↦
-          elim (cases_lt place (plan.origin + (6 + VARIABLES))) [
+          elim (cases_lt place (plan.origin + (6 + length plan.variables))) [
             | inl variable ↦ inl (p.reads_variables place (record { from = behind; to = variable }))
             | inr after ↦
                 elim (cases_lt place (plan.origin + code_size plan)) [
@@ -137,10 +136,11 @@ play_known pointer holds =
     both (known filter_tree nothing).reads_known (known voice_tree (either the_x shown)).reads_known rest_on_few.filter
     rest_on_few.voice_by_load
 
-init_known : (pointer : ℕ) (holds : ℕ → Bool) (start : Start) → are_known (init_entrance pointer holds start) ≡ true
+init_known : (pointer : ℕ) (holds : ℕ → Bool) (start : Start) (variables : ℕ) →
+    are_known (init_entrance pointer holds start variables) ≡ true
 unfolding init_entrance
-init_known pointer holds start =
-    both (known (init_tree start) the_a).reads_known true (rest_on_few.init start) refl
+init_known pointer holds start variables =
+    both (known (init_tree start variables) the_a).reads_known true (rest_on_few.init start variables) refl
 
 none_stored : (pointer : ℕ) (holds : ℕ → Bool) (label : ℕ) → (play_entrance pointer holds).stored ≡ Some label → ⊥
 unfolding play_entrance
@@ -185,7 +185,7 @@ init_pair : {packed : PackedSong} {song : Song} {o : Options} {bytes : List ℕ}
 init_pair plan p one two k same done done' a b =
     let well = (well_entered plan p).init in record {
       alike = entrances_are_isolated (init_listed plan) one two k k well
-          (init_known plan.pointer plan.holds plan.start)
+          (init_known plan.pointer plan.holds plan.start (length plan.variables))
           (record {
             at = λ place may. same place (read_from plan p place may) (read_low plan p place may);
             off_stack = λ place may. off_stack plan p place may;
@@ -242,7 +242,7 @@ players_are_isolated plan packed song o bytes p = record { alike = by_call } whe
       Stand plan packed o earlier machine → (meant (init_listed plan) machine k).outcome ≡ Done
   init_done earlier k machine is few stand =
       ap (λ (r : Ran). r.outcome) (init_meant plan p machine k)
-      ∙ (init_begins plan p k machine is few (plays_at plan p k few) stand.ready.holds.lists).ends
+      ∙ (init_begins plan p k machine is few (plays_at plan p k few) _ _ stand.ready.holds).ends
 
   by_call : (earlier : List ImageCall) (call : ImageCall) (before one two : Machine) (number other : ℕ) →
       LeadTo bytes plan.origin song earlier before → since_init (call ∷ earlier) ≢ None →
@@ -281,9 +281,9 @@ players_are_isolated plan packed song o bytes p = record { alike = by_call } whe
       let second = stand_moved plan p earlier before two agrees' stand in
       let few = subtune_few plan p k made.0 in
       let a = init_returns plan p k one is first.ready.init_code
-      (init_begins plan p k one is few (plays_at plan p k few) first.ready.holds.lists) in
+      (init_begins plan p k one is few (plays_at plan p k few) _ _ first.ready.holds) in
       let b = init_returns plan p k two is' second.ready.init_code
-      (init_begins plan p k two is' few (plays_at plan p k few) second.ready.holds.lists) in
+      (init_begins plan p k two is' few (plays_at plan p k few) _ _ second.ready.holds) in
       let same = both_same plan p before one two agrees agrees' in
       let pair = init_pair plan p one two k same (init_done earlier k one is few first)
       (init_done earlier k two is' few second) a b in

@@ -5,3 +5,5 @@
 pub use Rattle.player_calls.proofs.Served.{players_play}
 pub use Rattle.player_calls.proofs.Isolated.{players_are_isolated}
 pub use Rattle.player_calls.proofs.Loaded.{players_hold_the_start, songs_have_subtunes}
+-- labels that have a byte, and others, in the wide layouts of a plan
+pub use Rattle.player_calls.proofs.Wide.{InSpare, in_spare, spare_is, no_spare, wide_at}

@@ -1,5 +1,5 @@
 -- The image as it is loaded: its code stands, and the start of the first subtune.
-use Rattle.std.proofs.Common.{◌≡◌, ◌≢◌, ℕ, ◌+◌, ◌<◌, List, [], ◌∷◌, length, refl, sym, ap}
+use Rattle.std.proofs.Common.{◌≡◌, ◌≢◌, ℕ, ◌+◌, ◌<◌, Bool, List, [], ◌∷◌, length, inr, refl, sym, ap}
 use Rattle.std.proofs.Common.{◌∙◌, subst, arith}
 use Rattle.std.specs.Prelude.{slice_index}
 use Rattle.std.proofs.lemmas.List.{length-map}
@@ -16,9 +16,11 @@ use Rattle.cpu6502.specs.declared.machine.Machine.{Machine}
 use Rattle.cpu6502.specs.Code.{Holds as HoldsBytes}
 use Rattle.asm6502.specs.Assembly.{assembled_bytes}
 use Rattle.frame_code.proofs.Laws.{begun_holds}
-use Rattle.player_code.specs.Plans.{Plan, plan_layout, plan_lines}
+use Rattle.player_code.specs.Plans.{Plan, plan_lines}
 use Rattle.player_code.proofs.Laws.{assembled_code_stands}
+use Rattle.player_calls.specs.WideLayouts.{wide_layout, with_zeros}
 use Rattle.player_calls.specs.Players.{IsPlayer, HasImage}
+use Rattle.player_calls.proofs.Wide.{no_spare}
 use Rattle.player_calls.specs.CallLaws.{PlayersHoldTheStart}
 use Rattle.player_calls.proofs.Plays.{Ready}
 use Rattle.player_calls.proofs.Begins.{playable_at}
@@ -66,9 +68,20 @@ has_image plan p machine holds = record {
       (holds.byte k (omega (arith, below, size)) ∙ ap (λ bs. slice_index bs k) p.are);
 }
 
+-- the spare bytes are none of the image's
+image_with_zeros : {packed : PackedSong} {song : Song} {o : Options} {bytes : List ℕ} (plan : Plan) →
+    IsPlayer plan packed song o bytes → (which : Bool) (at : ℕ → ℕ) → HasImage plan at →
+    HasImage plan (with_zeros which at)
+image_with_zeros plan p which at has = record {
+  byte = λ k below.
+      let begins = p.begins in
+      rw (no_spare which (plan.origin + (0 + k)) (inr (omega (arith, begins)))) (has.byte k below);
+}
+
 pub players_hold_the_start : PlayersHoldTheStart
-players_hold_the_start plan packed song o bytes at p has =
-    begun_holds (plan_layout plan) packed o 0 at (p.lists at has) (p.variables at has)
+players_hold_the_start plan packed song o bytes which at p has =
+    begun_holds (wide_layout plan which) packed o 0 (with_zeros which at)
+    (p.lists which (with_zeros which at) (image_with_zeros plan p which at has)) (p.variables which at has)
     (playable_at (unpacked_song packed) 0 (plays_at plan p 0 (some_subtunes plan p)))
 
 pub loaded_ready : {packed : PackedSong} {song : Song} {o : Options} {bytes : List ℕ} (plan : Plan) →
@@ -81,5 +94,9 @@ loaded_ready {packed = packed} {song = song} {o = o} {bytes = bytes} plan p mach
     let code = assembled_code_stands plan (slice_index machine.memory) p.is (omega (arith, ends)) has in record {
       play_code = code.play;
       init_code = code.init;
-      holds = players_hold_the_start plan packed song o bytes (slice_index machine.memory) p has;
+      holds = λ which. record {
+        memory = with_zeros which (slice_index machine.memory);
+        same = λ place none. rw none refl;
+        holds = players_hold_the_start plan packed song o bytes which (slice_index machine.memory) p has;
+      };
     }

@@ -12,7 +12,7 @@ use Rattle.scopes.specs.Desk.{Layout}
 use Rattle.scope_lines.specs.Lowered.{writes_at}
 use Rattle.scope_calls.specs.Listed.{layout_at, IsCode, MayStore, AsBlock, AsNumber, AsCall}
 use Rattle.scope_calls.specs.EntranceLaws.{IsApart}
-use Rattle.player_memory.specs.declared.labels.TheConstants.{VARIABLES, LENT}
+use Rattle.player_memory.specs.declared.labels.TheConstants.{FIRST_VARIABLE}
 use Rattle.player_code.specs.CodeLines.{play_entrance, init_entrance}
 use Rattle.player_code.specs.Plans.{Plan, plan_size, code_size, plan_layout, play_listed, init_listed}
 use Rattle.player_code.specs.CodeLaws.{WritesApart, AreWellEntered}
@@ -45,7 +45,8 @@ record Numbers (plan : Plan) : Type 0 where
   begins : 0x0800 ≤ plan.origin
   ends : plan.origin + plan_size plan ≤ 0xD000
   pointer : plan.pointer ≤ 254
-  code : 6 + VARIABLES ≤ code_size plan
+  code : 6 + length plan.variables ≤ code_size plan
+  some : 1 ≤ length plan.variables
   all : code_size plan ≤ plan_size plan
 
 numbers : {packed : PackedSong} {song : Song} {o : Options} {bytes : List ℕ} (plan : Plan) →
@@ -57,6 +58,7 @@ numbers plan p =
       ends = p.ends;
       pointer = p.is.pointer_high;
       code = omega (arith, size);
+      some = p.is.variables_low;
       all = omega (arith, all);
     }
 
@@ -71,7 +73,7 @@ below_of plan place n (Low is) = (let few = n.pointer in omega (arith, is, few))
 below_of plan place n (High is) = (let few = n.pointer in omega (arith, is, few))
 
 outside_of : (plan : Plan) (place : ℕ) → Numbers plan → Written plan place →
-    (place < plan.origin + (6 + VARIABLES)) ⊎ (plan.origin + code_size plan ≤ place)
+    (place < plan.origin + (6 + length plan.variables)) ⊎ (plan.origin + code_size plan ≤ place)
 outside_of plan place n (ByBlock (AtVariable is)) = inl is.to
 outside_of plan place n (ByBlock (InLists is)) = inr is.from
 outside_of plan place n (ByBlock (AtRegister from to)) =
@@ -156,15 +158,23 @@ stack_own : {size address zero_page : ℕ} {o : Options} (sp place : ℕ) →
 stack_own sp place (inl is) = IsOwnPlace.on_stack 0 (omega arith) (omega (arith, is))
 stack_own sp place (inr is) = IsOwnPlace.on_stack 1 (omega arith) (omega (arith, is))
 
+-- the first variable has the first byte behind the jumps
+pub first_at : {packed : PackedSong} {song : Song} {o : Options} {bytes : List ℕ} (plan : Plan) →
+    IsPlayer plan packed song o bytes → (plan_layout plan).address FIRST_VARIABLE ≡ plan.origin + 6
+first_at plan p =
+    let first = p.first in
+    let at = (labels_stand_in_place plan p.is).variables FIRST_VARIABLE (omega arith) in omega (arith, at, first)
+
 in_image_at : {packed : PackedSong} {song : Song} {o : Options} {bytes : List ℕ} (plan : Plan) →
-    IsPlayer plan packed song o bytes → (sp place : ℕ) → place ≡ plan.origin + (6 + LENT) →
+    IsPlayer plan packed song o bytes → (sp place : ℕ) → place ≡ plan.origin + 6 →
     IsOwnPlace (length bytes) plan.origin plan.pointer o sp place
 in_image_at plan p sp place is =
     let n = numbers plan p in
     let size = p.size in
     let code = n.code in
     let all = n.all in
-    IsOwnPlace.in_image (omega (arith, is)) (omega (arith, is, size, code, all))
+    let some = n.some in
+    IsOwnPlace.in_image (omega (arith, is)) (omega (arith, is, size, code, all, some))
 
 pub play_stores : {packed : PackedSong} {song : Song} {o : Options} {bytes : List ℕ} (plan : Plan) →
     IsPlayer plan packed song o bytes → (sp place : ℕ) → MayStore (play_listed plan) sp place →
@@ -186,11 +196,11 @@ init_stores plan p sp place (AsBlock may) =
     (written plan p place
     (subst (λ (l : Layout). writes_at l place ≡ true) (entrances_are_in_one_listing plan p.is).init_layout may))
 init_stores plan p sp place (AsNumber label stored is) =
-    let same : LENT ≡ label = cc in
+    let same : FIRST_VARIABLE ≡ label = cc in
     in_image_at plan p _ place
     (sym is ∙ (ap (layout_at (init_listed plan)).address (sym same)
-    ∙ (ap (λ (l : Layout). l.address LENT) (entrances_are_in_one_listing plan p.is).init_layout
-    ∙ (labels_stand_in_place plan p.is).variables LENT (omega arith))))
+    ∙ (ap (λ (l : Layout). l.address FIRST_VARIABLE) (entrances_are_in_one_listing plan p.is).init_layout
+    ∙ first_at plan p)))
 init_stores plan p sp place (AsCall block voice is) = absurd (cc)
 
 -- ---- code
@@ -198,7 +208,7 @@ init_stores plan p sp place (AsCall block voice is) = absurd (cc)
 -- a place of the two jumps, or of the code of an entrance
 pub record IsCodePlace (plan : Plan) (place : ℕ) : Type 0 where
   pub is : ((plan.origin ≤ place) × (place < plan.origin + 6))
-      ⊎ ((plan.origin + (6 + VARIABLES) ≤ place) × (place < plan.origin + code_size plan))
+      ⊎ ((plan.origin + (6 + length plan.variables) ≤ place) × (place < plan.origin + code_size plan))
 
 code_unwritten : (plan : Plan) (place : ℕ) → Numbers plan → IsCodePlace plan place → Written plan place → ⊥
 code_unwritten plan place n code w =
@@ -218,11 +228,12 @@ pub unwritten : {packed : PackedSong} {song : Song} {o : Options} {bytes : List 
     writes_at (plan_layout plan) place ≢ true
 unwritten plan p place code w = code_unwritten plan place (numbers plan p) code (written plan p place w)
 
-not_lent : (plan : Plan) (place : ℕ) → IsCodePlace plan place → plan.origin + (6 + LENT) ≢ place
-not_lent plan place code e =
+not_first : (plan : Plan) (place : ℕ) → Numbers plan → IsCodePlace plan place → plan.origin + 6 ≢ place
+not_first plan place n code e =
+    let some = n.some in
     elim code.is [
       | inl jump ↦ omega (arith, jump, e)
-      | inr code ↦ omega (arith, code, e)
+      | inr code ↦ omega (arith, code, e, some)
     ]
 
 pub play_apart : {packed : PackedSong} {song : Song} {o : Options} {bytes : List ℕ} (plan : Plan) →
@@ -242,10 +253,10 @@ init_apart plan p place code = record {
   blocks = λ w.
       unwritten plan p place code
       (subst (λ (l : Layout). writes_at l place ≡ true) (entrances_are_in_one_listing plan p.is).init_layout w);
-  stored = λ label e is. (let same : LENT ≡ label = cc in
-      not_lent plan place code
-      (sym ((labels_stand_in_place plan p.is).variables LENT (omega arith))
-      ∙ (sym (ap (λ (l : Layout). l.address LENT) (entrances_are_in_one_listing plan p.is).init_layout)
+  stored = λ label e is. (let same : FIRST_VARIABLE ≡ label = cc in
+      not_first plan place (numbers plan p) code
+      (sym (first_at plan p)
+      ∙ (sym (ap (λ (l : Layout). l.address FIRST_VARIABLE) (entrances_are_in_one_listing plan p.is).init_layout)
       ∙ (ap (layout_at (init_listed plan)).address same ∙ is))));
 }
 

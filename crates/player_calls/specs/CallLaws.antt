@@ -1,5 +1,5 @@
 -- What the calls of a player do, in any order and whatever else is in memory. This is the project's own player.
-use Rattle.std.specs.Prelude.{ℕ, List}
+use Rattle.std.specs.Prelude.{ℕ, Bool, List}
 use Rattle.song_model.specs.declared.songs.Song.{Song}
 use Rattle.play_model.specs.declared.options.Options.{Options}
 use Rattle.play_model.specs.State.{start_state}
@@ -7,7 +7,8 @@ use Rattle.packed_form.specs.declared.packed_songs.PackedSong.{PackedSong}
 use Rattle.faithful.specs.Histories.{PlaysAlways}
 use Rattle.faithful.specs.Isolation.{IsIsolated}
 use Rattle.player_memory.specs.Holds.{Holds}
-use Rattle.player_code.specs.Plans.{Plan, plan_layout}
+use Rattle.player_code.specs.Plans.{Plan}
+use Rattle.player_calls.specs.WideLayouts.{wide_layout, with_zeros}
 use Rattle.player_calls.specs.Players.{IsPlayer, HasImage}
 
 -- any calls in any order leave the song's registers, from the first init on
@@ -22,8 +23,9 @@ PlayersAreIsolated =
     (plan : Plan) (packed : PackedSong) (song : Song) (o : Options) (bytes : List ℕ) →
     IsPlayer plan packed song o bytes → IsIsolated bytes plan.origin song
 
--- as it is loaded it holds the start of the first subtune
+-- as it is loaded it holds the start of the first subtune, where the variables without a byte have a spare zero
 abbrev pub PlayersHoldTheStart : Type 0
 PlayersHoldTheStart =
-    (plan : Plan) (packed : PackedSong) (song : Song) (o : Options) (bytes : List ℕ) (at : ℕ → ℕ) →
-    IsPlayer plan packed song o bytes → HasImage plan at → Holds (plan_layout plan) packed 0 (start_state o) at
+    (plan : Plan) (packed : PackedSong) (song : Song) (o : Options) (bytes : List ℕ) (which : Bool) (at : ℕ → ℕ) →
+    IsPlayer plan packed song o bytes → HasImage plan at →
+    Holds (wide_layout plan which) packed 0 (start_state o) (with_zeros which at)

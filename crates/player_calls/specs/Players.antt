@@ -1,5 +1,5 @@
 -- A player in an image: what is asked of its listing, and of what stands in it. This is the project's own player.
-use Rattle.std.specs.Prelude.{◌≡◌, ℕ, ◌+◌, ◌<◌, ◌≤◌, ◌⊎◌, true, List, length, nat_lt, IsBitSet}
+use Rattle.std.specs.Prelude.{◌≡◌, ℕ, ◌+◌, ◌<◌, ◌≤◌, ◌⊎◌, Bool, true, List, length, nat_lt, IsBitSet}
 use Rattle.song_model.specs.declared.features.Feature.{Feature}
 use Rattle.song_model.specs.declared.songs.Song.{Song}
 use Rattle.song_model.specs.Feature.{bit_of}
@@ -9,10 +9,11 @@ use Rattle.packed_form.specs.declared.packed_songs.PackedSong.{PackedSong}
 use Rattle.packed_form.specs.StandsFor.{StandsFor}
 use Rattle.asm6502.specs.Assembly.{assembled_bytes}
 use Rattle.asm6502.specs.Stretches.{HasBytes}
-use Rattle.player_memory.specs.declared.conditions.TheConstants.{TIMED}
-use Rattle.player_memory.specs.declared.labels.TheConstants.{VARIABLES}
+use Rattle.player_memory.specs.declared.conditions.TheConstants.{NOTE_DEPENDENT, TIMED}
+use Rattle.player_memory.specs.declared.labels.TheConstants.{FIRST_VARIABLE, SLIDES_LOW, SLIDES_HIGH}
 use Rattle.player_memory.specs.FactLines.{KeepsMarked, KeepsShared}
-use Rattle.player_memory.specs.SongLists.{HasSongLists}
+use Rattle.player_memory.specs.Playing.{place_in}
+use Rattle.player_memory.specs.SongLists.{SongList, IsSongList, HasNumber, HasSongLists, list_label, slide_rows}
 use Rattle.player_memory.specs.Holds.{IsPlayerLayout, order_label}
 use Rattle.player_memory.specs.Starting.{Begins}
 use Rattle.slide_code.specs.SlideBlock.{KeepsCommon}
@@ -21,13 +22,14 @@ use Rattle.init_code.specs.InitBlock.{MaySetTimer}
 use Rattle.kept_lines.specs.Starts.{start_of}
 use Rattle.frame_scenes.specs.FrameScenes.{KeepsPatternLimits}
 use Rattle.player_code.specs.Plans.{Plan, IsPlan, plan_lines, plan_size, code_size, plan_layout}
+use Rattle.player_calls.specs.WideLayouts.{wide_layout, with_zeros}
 
 -- ---- places
 
 -- a place of the variables, and one of the lists behind the code
 pub record IsVariable (plan : Plan) (place : ℕ) : Type 0 where
   pub from : plan.origin + 6 ≤ place
-  pub to : place < plan.origin + (6 + VARIABLES)
+  pub to : place < plan.origin + (6 + length plan.variables)
 
 pub record IsOfLists (plan : Plan) (place : ℕ) : Type 0 where
   pub from : plan.origin + code_size plan ≤ place
@@ -40,6 +42,11 @@ pub data MayBeWritten (plan : Plan) (place : ℕ) : Type 0 where
   AtRegister : 0xD400 ≤ place → place ≤ 0xD418 → MayBeWritten plan place
   AtTimer : plan.holds TIMED ≡ true → (place ≡ 0xDC04) ⊎ (place ≡ 0xDC05) → MayBeWritten plan place
 
+-- the slides of a row are among the lists
+pub record HasSlideInside (plan : Plan) (which : Bool) (row : ℕ) : Type 0 where
+  pub low : IsOfLists plan ((wide_layout plan which).address SLIDES_LOW + row)
+  pub high : IsOfLists plan ((wide_layout plan which).address SLIDES_HIGH + row)
+
 -- ---- the image
 
 -- a memory has the listing's bytes
@@ -49,9 +56,10 @@ HasImage plan at = HasBytes at plan.origin 0 (plan_size plan) (assembled_bytes 0
 -- ---- a player
 
 -- The bytes are the plan's listing, which stands from $0800 up to $D000. The packed song stands for a song, and has at
--- most 85 subtunes. The lines are kept of its features and facts, of what they have in common, and of the options. The blocks may
--- read the variables and the lists, and write where they must. In each memory with the listing's bytes the song's lists
--- stand, and the variables begin as the first subtune does.
+-- most 85 subtunes. The lines are kept of its features and facts, of what they have in common, and of the options. The
+-- first variable has the first byte. The blocks may read the variables and the lists, and write where they must. The
+-- song's lists are among the lists of the listing. In each memory with its bytes they stand, and the variables begin as
+-- the first subtune does, those without a byte in the image by their spare zeros.
 pub record IsPlayer (plan : Plan) (packed : PackedSong) (song : Song) (o : Options) (bytes : List ℕ) : Type 0 where
   pub is : IsPlan plan
   pub are : bytes ≡ assembled_bytes 0 plan.origin (plan_lines plan)
@@ -65,17 +73,23 @@ pub record IsPlayer (plan : Plan) (packed : PackedSong) (song : Song) (o : Optio
   pub start : plan.start ≡ start_of o
   pub features : (feature : Feature) → IsBitSet packed.features.0 (bit_of feature) → plan.holds (bit_of feature) ≡ true
   pub facts : KeepsMarked (plan_layout plan) packed.facts
-  pub shared : KeepsShared (plan_layout plan)
-  pub common : KeepsCommon (plan_layout plan)
-  pub options : KeepsOptions (plan_layout plan) o
+  pub shared : (which : Bool) → KeepsShared (wide_layout plan which)
+  pub common : (which : Bool) → KeepsCommon (wide_layout plan which)
+  pub options : (which : Bool) → KeepsOptions (wide_layout plan which) o
   pub timed : plan.holds TIMED ≡ nat_lt 1 o.speed
-  pub laid : IsPlayerLayout (plan_layout plan) packed
-  pub timer : MaySetTimer (plan_layout plan)
+  pub laid : (which : Bool) → IsPlayerLayout (wide_layout plan which) packed
+  pub first : plan.places FIRST_VARIABLE ≡ 0
+  pub timer : (which : Bool) → MaySetTimer (wide_layout plan which)
   pub reads_variables : (place : ℕ) → IsVariable plan place → plan.may_read place ≡ true
   pub reads_lists : (place : ℕ) → IsOfLists plan place → plan.may_read place ≡ true
   pub reads : (place : ℕ) → plan.may_read place ≡ true → IsVariable plan place ⊎ IsOfLists plan place
+  pub writes_variables : (place : ℕ) → IsVariable plan place → plan.may_write place ≡ true
   pub writes : (place : ℕ) → plan.may_write place ≡ true → MayBeWritten plan place
-  pub lists : (at : ℕ → ℕ) → HasImage plan at → HasSongLists (plan_layout plan) packed at
-  pub variables : (at : ℕ → ℕ) → HasImage plan at →
-      Begins (plan_layout plan) (start_of o).tempo (start_of o).funk
-      (λ voice. (plan_layout plan).address (order_label 0 voice)) at
+  pub inside : (which : Bool) (list : SongList) (number : ℕ) → IsSongList (wide_layout plan which) packed list →
+      HasNumber packed list number → IsOfLists plan (place_in (wide_layout plan which) (list_label list) number)
+  pub slides : (which : Bool) → plan.holds NOTE_DEPENDENT ≡ true → (row : ℕ) → row < slide_rows packed →
+      HasSlideInside plan which row
+  pub lists : (which : Bool) (at : ℕ → ℕ) → HasImage plan at → HasSongLists (wide_layout plan which) packed at
+  pub variables : (which : Bool) (at : ℕ → ℕ) → HasImage plan at →
+      Begins (wide_layout plan which) (start_of o).tempo (start_of o).funk
+      (λ voice. (wide_layout plan which).address (order_label 0 voice)) (with_zeros which at)

@@ -1,5 +1,5 @@
--- How many bytes the code takes: those of its blocks, and 138 around them.
-use Rattle.std.proofs.Common.{◌≡◌, ℕ, ◌+◌, Bool, arith}
+-- How many bytes the code takes: those of its blocks, of its variables, and 25 around them.
+use Rattle.std.proofs.Common.{◌≡◌, ℕ, ◌+◌, Bool, length, arith}
 use Rattle.scope_lines.specs.Sizes.{size}
 use Rattle.scope_calls.specs.Entrances.{entrance_size}
 use Rattle.player_text.specs.declared.texts.Start.{Start}
@@ -13,14 +13,15 @@ play_size : (pointer : ℕ) (holds : ℕ → Bool) →
 unfolding play_entrance
 play_size pointer holds = omega arith
 
-init_size : (pointer : ℕ) (holds : ℕ → Bool) (start : Start) →
-    entrance_size (init_entrance pointer holds start) ≡ 5 + size holds (init_tree start)
+init_size : (pointer : ℕ) (holds : ℕ → Bool) (start : Start) (variables : ℕ) →
+    entrance_size (init_entrance pointer holds start variables) ≡ 5 + size holds (init_tree start variables)
 unfolding init_entrance
-init_size pointer holds start = omega arith
+init_size pointer holds start variables = omega arith
 
 pub code_takes_its_blocks : CodeTakesItsBlocks
-code_takes_its_blocks variables pointer holds start all =
-    let whole = around_size variables (play_entrance pointer holds) (init_entrance pointer holds start) all in
+code_takes_its_blocks places variables pointer holds start =
+    let its_init = init_entrance pointer holds start (length variables) in
+    let whole = around_size places variables (play_entrance pointer holds) its_init in
     let play = play_size pointer holds in
-    let init = init_size pointer holds start in
+    let init = init_size pointer holds start (length variables) in
     omega (arith, whole, play, init)

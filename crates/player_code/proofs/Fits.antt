@@ -1,5 +1,5 @@
 -- The two entrances have lines, and use the labels of the image alone.
-use Rattle.std.proofs.Common.{◌≡◌, ℕ, ◌≤◌, ◌&&◌, Bool, true, refl}
+use Rattle.std.proofs.Common.{◌≡◌, ℕ, ◌<◌, ◌≤◌, ◌&&◌, Bool, true, refl}
 use Rattle.player_text.proofs.Laws.{have_lines}
 use Rattle.scope_lines.specs.Reach.{nothing_around, has_lines}
 use Rattle.player_text.specs.Facts.{HasBytes}
@@ -14,16 +14,18 @@ both one two first second = rw (first, second) refl
 pub play_fits : (pointer : ℕ) (holds : ℕ → Bool) → pointer ≤ 254 → IsFit (play_entrance pointer holds)
 unfolding play_entrance
 play_fits pointer holds high = record {
-  lines = both (has_lines nothing_around filter_tree) (has_lines nothing_around voice_tree) have_lines.filter have_lines.voice;
+  lines = both (has_lines nothing_around filter_tree) (has_lines nothing_around voice_tree) have_lines.filter
+      have_lines.voice;
   uses = refl;
   pointer = high;
 }
 
-pub init_fits : (pointer : ℕ) (holds : ℕ → Bool) (start : Start) → HasBytes start → pointer ≤ 254 →
-    IsFit (init_entrance pointer holds start)
+pub init_fits : (pointer : ℕ) (holds : ℕ → Bool) (start : Start) (variables : ℕ) → HasBytes start → variables < 256 →
+    pointer ≤ 254 → IsFit (init_entrance pointer holds start variables)
 unfolding init_entrance
-init_fits pointer holds start bytes high = record {
-  lines = both (has_lines nothing_around (init_tree start)) true (have_lines.init start bytes) refl;
+init_fits pointer holds start variables bytes few high = record {
+  lines = both (has_lines nothing_around (init_tree start variables)) true
+      (have_lines.init start variables bytes few) refl;
   uses = refl;
   pointer = high;
 }

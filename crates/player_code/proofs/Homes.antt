@@ -1,7 +1,7 @@
 -- The lines of an image are at home in its listing, which names the labels that they use; so it assembles.
 use Rattle.std.proofs.Common.{◌≡◌, ℕ, ◌+◌, ◌≤◌, ◌||◌, Bool, true, false, nat_lt, nat_eq, List, []}
 use Rattle.std.proofs.Common.{◌∷◌}
-use Rattle.std.proofs.Common.{◌++◌, All, Some, None, IsTrue, refl, sym, ap, ◌∙◌, subst}
+use Rattle.std.proofs.Common.{◌++◌, map, All, Some, None, IsTrue, refl, sym, ap, ◌∙◌, subst}
 use Rattle.std.proofs.lemmas.List.{append-nil}
 use Rattle.std.proofs.lemmas.List.Elements.{All-head, All-tail}
 use Rattle.base.proofs.Laws.{same_some}
@@ -18,7 +18,7 @@ use Rattle.scope_calls.specs.Homes.{entrance_uses}
 use Rattle.scope_calls.proofs.Laws.{code_home, homes_join, entrance_lines_are_at_home}
 use Rattle.player_memory.specs.declared.labels.TheConstants.{VARIABLES}
 use Rattle.player_code.specs.declared.labels.TheConstants.{INIT_CODE, PLAY_CODE}
-use Rattle.player_code.specs.CodeLines.{jump_to, name, byte_line, variable_lines, front_lines}
+use Rattle.player_code.specs.CodeLines.{jump_to, name, byte_line, names_at, variable_lines, front_lines}
 use Rattle.player_code.specs.CodeLines.{lines_around}
 use Rattle.player_code.specs.Plans.{IsListItem, IsListLine, is_read}
 
@@ -61,15 +61,24 @@ name_home label = plain (name label) refl refl refl refl
 
 -- ---- the code
 
-variables_home : (first : ℕ) (bytes : List ℕ) → Home (variable_lines first bytes)
-variables_home first [] = record { home = tt }
-variables_home first (byte ∷ bytes) =
-    then (name_home first) (then (plain (byte_line byte) refl refl refl refl) (variables_home (first + 1) bytes))
+labels_home : (labels : List ℕ) → Home (map name labels)
+labels_home [] = record { home = tt }
+labels_home (label ∷ labels) = then (name_home label) (labels_home labels)
 
-front_home : (variables : List ℕ) → Home (front_lines variables)
-front_home variables =
+names_home : (places : ℕ → ℕ) (place : ℕ) → Home (names_at places place)
+unfolding names_at
+names_home places place = labels_home _
+
+variables_home : (places : ℕ → ℕ) (first : ℕ) (bytes : List ℕ) → Home (variable_lines places first bytes)
+variables_home places first [] = record { home = tt }
+variables_home places first (byte ∷ bytes) =
+    join (names_home places first)
+    (then (plain (byte_line byte) refl refl refl refl) (variables_home places (first + 1) bytes))
+
+front_home : (places : ℕ → ℕ) (variables : List ℕ) → Home (front_lines places variables)
+front_home places variables =
     join (then (jump_home INIT_CODE refl) (jump_home PLAY_CODE refl))
-    (join (variables_home 0 variables) (name_home PLAY_CODE))
+    (join (variables_home places 0 variables) (name_home PLAY_CODE))
 
 -- an entrance that has lines, and uses these labels alone
 pub record IsFit (e : Entrance) : Type 0 where
@@ -110,10 +119,10 @@ lists_home (line ∷ lists) held =
 
 -- ---- all of it
 
-all_home : (variables : List ℕ) (play init : Entrance) (lists : List Line) → IsFit play → IsFit init →
-    All IsListLine lists → Home (lines_around variables play init ++ lists)
-all_home variables play init lists one two held =
-    join (join (front_home variables) (join (entrance_home play one) (join (name_home INIT_CODE)
+all_home : (places : ℕ → ℕ) (variables : List ℕ) (play init : Entrance) (lists : List Line) → IsFit play → IsFit init →
+    All IsListLine lists → Home (lines_around places variables play init ++ lists)
+all_home places variables play init lists one two held =
+    join (join (front_home places variables) (join (entrance_home play one) (join (name_home INIT_CODE)
     (entrance_home init two))))
     (lists_home lists held)
 
@@ -129,11 +138,12 @@ home_assembles set origin lines home once named fits =
     (subst (NamesOthers is_known) (sym (append-nil lines)) named)
     (subst (λ ls. origin + size_of (kept set ls) ≤ MEMORY_SIZE) (sym (append-nil lines)) fits) split))
 
-pub lines_assemble : (variables : List ℕ) (play init : Entrance) (lists : List Line) (set origin : ℕ) → IsFit play →
-    IsFit init → All IsListLine lists → NamesNoLabelTwice (lines_around variables play init ++ lists) →
-    NamesOthers is_known (lines_around variables play init ++ lists) →
-    origin + size_of (kept set (lines_around variables play init ++ lists)) ≤ MEMORY_SIZE →
-    fault_of set origin (lines_around variables play init ++ lists) ≡ None
-lines_assemble variables play init lists set origin one two held once named fits =
-    home_assembles set origin (lines_around variables play init ++ lists)
-    (all_home variables play init lists one two held) once named fits
+pub lines_assemble : (places : ℕ → ℕ) (variables : List ℕ) (play init : Entrance) (lists : List Line)
+    (set origin : ℕ) → IsFit play → IsFit init → All IsListLine lists →
+    NamesNoLabelTwice (lines_around places variables play init ++ lists) →
+    NamesOthers is_known (lines_around places variables play init ++ lists) →
+    origin + size_of (kept set (lines_around places variables play init ++ lists)) ≤ MEMORY_SIZE →
+    fault_of set origin (lines_around places variables play init ++ lists) ≡ None
+lines_assemble places variables play init lists set origin one two held once named fits =
+    home_assembles set origin (lines_around places variables play init ++ lists)
+    (all_home places variables play init lists one two held) once named fits

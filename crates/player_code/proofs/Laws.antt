@@ -5,8 +5,8 @@ pub use Rattle.player_code.proofs.Whole.{code_assembles, entrances_are_in_one_li
 pub use Rattle.player_code.proofs.Whole.{code_is_well_entered, size_is, listed_ends}
 -- all lines of the code, and of the variables, are kept
 pub use Rattle.player_code.proofs.Whole.{code_kept}
-pub use Rattle.player_code.proofs.Sizes.{variables_kept, front_size}
-pub use Rattle.player_code.proofs.Places.{variables_size}
+pub use Rattle.player_code.proofs.Sizes.{front_size}
+pub use Rattle.player_code.proofs.Variables.{variables_kept, variables_size, names_kept, names_size}
 -- all lines of an image are kept; those of the code are few
 pub use Rattle.player_code.proofs.Whole.{kept_is}
 pub use Rattle.player_code.proofs.CodeCounts.{code_is_few, data_append}

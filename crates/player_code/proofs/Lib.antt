@@ -4,8 +4,9 @@ pub mod Laws
 mod Entrances
 -- Labels: which are named, and where they are.
 mod Naming
-mod CodeNames
 mod Places
+mod Variables
+mod CodeNames
 mod Addresses
 -- Lines: what they use, that they are kept, and how many bytes they take.
 mod Homes

@@ -20,7 +20,7 @@ pub record Naming (Has : ℕ → Type 0) (lines : List Line) : Type 0 where
 
 -- ---- none
 
-names_it : (item : Item) (label : ℕ) → label_named item ≡ Some label → names label item ≡ true
+pub names_it : (item : Item) (label : ℕ) → label_named item ≡ Some label → names label item ≡ true
 names_it (Label other) label e = eq-eqb other label (same_some _ _ e)
 names_it (Code mnemonic mode operand) label e = absurd (cc)
 names_it (Bytes bytes) label e = absurd (cc)
@@ -109,7 +109,7 @@ not_it : (line : Line) (label : ℕ) (z : Bool) → names label line.item ≡ z 
 not_it line label true e never = absurd (never (named_by line.item label e))
 not_it line label false e never = refl
 
-unplaced : (lines : List Line) (label : ℕ) →
+pub unplaced : (lines : List Line) (label : ℕ) →
     ((before : List Line) (line : Line) (after : List Line) → lines ≡ before ++ line ∷ after →
     label_named line.item ≡ Some label → ⊥) →
     place_of lines label ≡ None

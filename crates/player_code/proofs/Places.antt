@@ -1,14 +1,13 @@
 -- Where the labels of an image are: their places in its lines, and that they are always named.
-use Rattle.std.proofs.Common.{◌≡◌, ℕ, zero, suc, ◌+◌, ◌<◌, Bool, true, false, if◌then◌else◌, nat_eq}
-use Rattle.std.proofs.Common.{List, [], ◌∷◌, ◌++◌, length, Option, Some, None, refl, sym, ap, ◌∙◌, subst, arith}
-use Rattle.std.proofs.Common.{append_assoc}
+use Rattle.std.proofs.Common.{◌≡◌, ℕ, ◌+◌, if◌then◌else◌, List, [], ◌∷◌, ◌++◌, Some, None, refl, sym, ap, ◌∙◌}
+use Rattle.std.proofs.Common.{arith, append_assoc}
 use Rattle.std.specs.Option.{option_or, option_map}
-use Rattle.std.proofs.lemmas.Bool.{eq-eqb, eqb-true}
 use Rattle.asm6502.specs.declared.lines.Line.{Line}
-use Rattle.asm6502.specs.Lines.{size_of, place_of}
-use Rattle.asm6502.specs.Stretches.{IsNamedAlways}
-use Rattle.asm6502.proofs.Laws.{place_of-append}
-use Rattle.player_code.specs.CodeLines.{name, byte_line, variable_lines}
+use Rattle.asm6502.specs.Lines.{item_size, size_of, place_of}
+use Rattle.asm6502.specs.Stretches.{IsNamedAlways, NamesNoLabelTwice}
+use Rattle.asm6502.proofs.Laws.{place_of-append, size_of-append}
+use Rattle.player_code.specs.CodeLines.{name}
+use Rattle.player_code.proofs.Naming.{names_it, unplaced}
 
 -- ---- in one list behind another
 
@@ -46,43 +45,53 @@ named_behind front back label named = record {
   always = named.always;
 }
 
--- ---- a name, and the variables
+-- ---- at a place that is told
 
-pub name_placed : (label : ℕ) (rest : List Line) → place_of (name label ∷ rest) label ≡ Some 0
-name_placed label rest =
-    ap (λ z. if z then Some 0 else option_map (λ p. 0 + p) (place_of rest label)) (eq-eqb label label refl)
+-- a label is named always, behind so many bytes
+pub record StandsAt (lines : List Line) (label place : ℕ) : Type 0 where
+  pub named : IsNamedAlways lines label
+  pub size : size_of named.front ≡ place
+
+pub stands_in_front : (front back : List Line) (label place : ℕ) → StandsAt front label place →
+    StandsAt (front ++ back) label place
+unfolding named_in_front
+stands_in_front front back label place stands = record {
+  named = named_in_front front back label stands.named;
+  size = stands.size;
+}
+
+pub stands_behind : (front back : List Line) (label bytes place : ℕ) → size_of front ≡ bytes →
+    StandsAt back label place → StandsAt (front ++ back) label (bytes + place)
+unfolding named_behind
+stands_behind front back label bytes place taken stands = record {
+  named = named_behind front back label stands.named;
+  size =
+      (let all = size_of-append front stands.named.front in
+      let rest = stands.size in
+      omega (arith, all, taken, rest));
+}
+
+-- where no line names it twice, that is its place
+pub stands_placed : (lines : List Line) (label place : ℕ) → NamesNoLabelTwice lines → StandsAt lines label place →
+    place_of lines label ≡ Some place
+stands_placed lines label place once stands =
+    let named = stands.named in
+    let before : place_of named.front label ≡ None =
+    unplaced named.front label
+    (λ front line between e n.
+    once.once front line between named.line named.back label
+    (named.split ∙ (ap (λ ls. ls ++ named.line ∷ named.back) e
+    ∙ append_assoc front (line ∷ between) (named.line ∷ named.back))) n named.names) in
+    ap (λ ls. place_of ls label) named.split
+    ∙ (placed_behind named.front (named.line ∷ named.back) label 0 before
+    (ap (λ z. if z then Some 0 else option_map (λ p. item_size named.line.item + p) (place_of named.back label))
+    (names_it named.line.item label named.names))
+    ∙ ap Some (let size = stands.size in omega (arith, size)))
 
 pub name_named : (label : ℕ) (rest : List Line) → IsNamedAlways (name label ∷ rest) label
 name_named label rest =
     record { front = []; line = name label; back = rest; split = refl; names = refl; always = refl }
 
-not_first : (first k : ℕ) (place : Option ℕ) (z : Bool) → nat_eq first (first + suc k) ≡ z → place ≡ Some k →
-    (if z then Some 0 else option_map (λ p. 0 + p) (option_map (λ p. 1 + p) place)) ≡ Some (suc k)
-not_first first k place true same e = (let never = eqb-true first (first + suc k) same in absurd (omega (arith, never)))
-not_first first k place false same e = rw e (ap Some (omega arith))
-
-pub variable_placed : (first k : ℕ) (bytes : List ℕ) → k < length bytes →
-    place_of (variable_lines first bytes) (first + k) ≡ Some k
-variable_placed first k [] below = absurd (omega (arith, below))
-variable_placed first zero (byte ∷ bytes) below =
-    subst (λ label. place_of (variable_lines first (byte ∷ bytes)) label ≡ Some 0) (omega arith)
-    (name_placed first (byte_line byte ∷ variable_lines (first + 1) bytes))
-variable_placed first (suc k) (byte ∷ bytes) below =
-    not_first first k (place_of (variable_lines (first + 1) bytes) (first + suc k)) (nat_eq first (first + suc k)) refl
-    (subst (λ label. place_of (variable_lines (first + 1) bytes) label ≡ Some k) (omega arith)
-    (variable_placed (first + 1) k bytes (omega (arith, below))))
-
-pub variable_named : (first k : ℕ) (bytes : List ℕ) → k < length bytes →
-    IsNamedAlways (variable_lines first bytes) (first + k)
-variable_named first k [] below = absurd (omega (arith, below))
-variable_named first zero (byte ∷ bytes) below =
-    subst (λ label. IsNamedAlways (variable_lines first (byte ∷ bytes)) label) (omega arith)
-    (name_named first (byte_line byte ∷ variable_lines (first + 1) bytes))
-variable_named first (suc k) (byte ∷ bytes) below =
-    named_behind (name first ∷ byte_line byte ∷ []) (variable_lines (first + 1) bytes) (first + suc k)
-    (subst (λ label. IsNamedAlways (variable_lines (first + 1) bytes) label) (omega arith)
-    (variable_named (first + 1) k bytes (omega (arith, below))))
-
-pub variables_size : (first : ℕ) (bytes : List ℕ) → size_of (variable_lines first bytes) ≡ length bytes
-variables_size first [] = refl
-variables_size first (byte ∷ bytes) = (let rest = variables_size (first + 1) bytes in omega (arith, rest))
+pub name_stands : (label : ℕ) (rest : List Line) → StandsAt (name label ∷ rest) label 0
+unfolding name_named
+name_stands label rest = record { named = name_named label rest; size = refl }

@@ -8,12 +8,11 @@ use Rattle.asm6502.specs.Lines.{is_kept, kept, size_of}
 use Rattle.asm6502.proofs.Laws.{kept-append, size_of-append}
 use Rattle.scope_calls.specs.Entrances.{Entrance, entrance_lines, entrance_size}
 use Rattle.scope_calls.proofs.Laws.{entrances_take_size, entrance_kept}
-use Rattle.player_memory.specs.declared.labels.TheConstants.{VARIABLES}
 use Rattle.player_code.specs.declared.labels.TheConstants.{PLAY_CODE}
-use Rattle.player_code.specs.CodeLines.{name, byte_line, variable_lines, jump_lines, front_lines, middle_lines}
+use Rattle.player_code.specs.CodeLines.{name, variable_lines, jump_lines, front_lines, middle_lines}
 use Rattle.player_code.specs.CodeLines.{lines_around}
 use Rattle.player_code.specs.Plans.{IsListLine, IsData}
-use Rattle.player_code.proofs.Places.{variables_size}
+use Rattle.player_code.proofs.Variables.{variables_size, variables_kept}
 
 -- ---- all are kept
 
@@ -22,15 +21,12 @@ both_kept : (set : ℕ) (front back : List Line) → kept set front ≡ front �
 both_kept set front back e f =
     kept-append set front back ∙ (ap (λ ls. ls ++ kept set back) e ∙ ap (λ ls. front ++ ls) f)
 
-pub variables_kept : (set first : ℕ) (bytes : List ℕ) → kept set (variable_lines first bytes) ≡ variable_lines first bytes
-variables_kept set first [] = refl
-variables_kept set first (byte ∷ bytes) =
-    ap (λ ls. name first ∷ byte_line byte ∷ ls) (variables_kept set (first + 1) bytes)
-
-pub front_kept : (set : ℕ) (variables : List ℕ) → kept set (front_lines variables) ≡ front_lines variables
-front_kept set variables =
-    both_kept set jump_lines (variable_lines 0 variables ++ name PLAY_CODE ∷ []) refl
-    (both_kept set (variable_lines 0 variables) (name PLAY_CODE ∷ []) (variables_kept set 0 variables) refl)
+pub front_kept : (set : ℕ) (places : ℕ → ℕ) (variables : List ℕ) →
+    kept set (front_lines places variables) ≡ front_lines places variables
+front_kept set places variables =
+    both_kept set jump_lines (variable_lines places 0 variables ++ name PLAY_CODE ∷ []) refl
+    (both_kept set (variable_lines places 0 variables) (name PLAY_CODE ∷ []) (variables_kept places set 0 variables)
+    refl)
 
 lists_kept : (set : ℕ) (lists : List Line) → All IsListLine lists → kept set lists ≡ lists
 lists_kept set [] held = refl
@@ -41,53 +37,53 @@ lists_kept set (line ∷ lists) held =
 
 -- ---- their bytes
 
-pub front_size : (variables : List ℕ) → size_of (front_lines variables) ≡ 6 + length variables
-front_size variables =
-    let all = size_of-append (variable_lines 0 variables) (name PLAY_CODE ∷ []) in
-    let bytes = variables_size 0 variables in
+pub front_size : (places : ℕ → ℕ) (variables : List ℕ) → size_of (front_lines places variables) ≡ 6 + length variables
+front_size places variables =
+    let all = size_of-append (variable_lines places 0 variables) (name PLAY_CODE ∷ []) in
+    let bytes = variables_size places 0 variables in
     omega (arith, all, bytes)
 
-pub around_size : (variables : List ℕ) (play init : Entrance) → length variables ≡ VARIABLES →
-    size_of (lines_around variables play init) ≡ 6 + VARIABLES + entrance_size play + entrance_size init
-around_size variables play init all =
-    let one = size_of-append (front_lines variables) (entrance_lines play ++ (middle_lines ++ entrance_lines init)) in
+pub around_size : (places : ℕ → ℕ) (variables : List ℕ) (play init : Entrance) →
+    size_of (lines_around places variables play init)
+    ≡ 6 + length variables + entrance_size play + entrance_size init
+around_size places variables play init =
+    let behind = entrance_lines play ++ (middle_lines ++ entrance_lines init) in
+    let one = size_of-append (front_lines places variables) behind in
     let two = size_of-append (entrance_lines play) (middle_lines ++ entrance_lines init) in
-    let front = front_size variables in
+    let front = front_size places variables in
     let taken = entrances_take_size play in
     let last = entrances_take_size init in
-    omega (arith, one, two, front, taken, last, all)
+    omega (arith, one, two, front, taken, last)
 
-module _ (variables : List ℕ) (play init : Entrance) (lists : List Line) (all : length variables ≡ VARIABLES)
-    (is : IsData lists) where
+module _ (places : ℕ → ℕ) (variables : List ℕ) (play init : Entrance) where
   pub begun_kept : (set : ℕ) →
-      kept set (front_lines variables ++ (entrance_lines play ++ middle_lines))
-      ≡ front_lines variables ++ (entrance_lines play ++ middle_lines)
+      kept set (front_lines places variables ++ (entrance_lines play ++ middle_lines))
+      ≡ front_lines places variables ++ (entrance_lines play ++ middle_lines)
   begun_kept set =
-      both_kept set (front_lines variables) (entrance_lines play ++ middle_lines) (front_kept set variables)
+      both_kept set (front_lines places variables) (entrance_lines play ++ middle_lines)
+      (front_kept set places variables)
       (both_kept set (entrance_lines play) middle_lines (entrance_kept set play) refl)
 
-  pub code_is_kept : (set : ℕ) → kept set (lines_around variables play init) ≡ lines_around variables play init
+  pub code_is_kept : (set : ℕ) →
+      kept set (lines_around places variables play init) ≡ lines_around places variables play init
   code_is_kept set =
-      both_kept set (front_lines variables) (entrance_lines play ++ (middle_lines ++ entrance_lines init))
-      (front_kept set variables)
+      both_kept set (front_lines places variables) (entrance_lines play ++ (middle_lines ++ entrance_lines init))
+      (front_kept set places variables)
       (both_kept set (entrance_lines play) (middle_lines ++ entrance_lines init) (entrance_kept set play)
       (both_kept set middle_lines (entrance_lines init) refl (entrance_kept set init)))
 
-  pub all_kept : (set : ℕ) →
-      kept set (lines_around variables play init ++ lists) ≡ lines_around variables play init ++ lists
-  all_kept set =
-      both_kept set (lines_around variables play init) lists (code_is_kept set) (lists_kept set lists is.lines)
+  pub all_kept : (set : ℕ) (lists : List Line) → IsData lists →
+      kept set (lines_around places variables play init ++ lists) ≡ lines_around places variables play init ++ lists
+  all_kept set lists is =
+      both_kept set (lines_around places variables play init) lists (code_is_kept set) (lists_kept set lists is.lines)
 
-  -- up to the code that begins a subtune, and all of the code
+  -- up to the code that begins a subtune
   pub begun_size :
-      size_of (front_lines variables ++ (entrance_lines play ++ middle_lines)) ≡ 6 + VARIABLES + entrance_size play
+      size_of (front_lines places variables ++ (entrance_lines play ++ middle_lines))
+      ≡ 6 + length variables + entrance_size play
   begun_size =
-      let one = size_of-append (front_lines variables) (entrance_lines play ++ middle_lines) in
+      let one = size_of-append (front_lines places variables) (entrance_lines play ++ middle_lines) in
       let two = size_of-append (entrance_lines play) middle_lines in
-      let front = front_size variables in
+      let front = front_size places variables in
       let taken = entrances_take_size play in
-      omega (arith, one, two, front, taken, all)
-
-  pub code_size_is :
-      size_of (lines_around variables play init) ≡ 6 + VARIABLES + entrance_size play + entrance_size init
-  code_size_is = around_size variables play init all
+      omega (arith, one, two, front, taken)

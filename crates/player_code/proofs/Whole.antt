@@ -1,5 +1,5 @@
 -- The listing of an image assembles, its labels are in place, and its entrances are well entered.
-use Rattle.std.proofs.Common.{◌≡◌, ℕ, ◌+◌, ◌<◌, ◌≤◌, ◌⊎◌, true, List, ◌++◌}
+use Rattle.std.proofs.Common.{◌≡◌, ℕ, ◌+◌, ◌<◌, ◌≤◌, ◌⊎◌, true, List, length, ◌++◌}
 use Rattle.std.proofs.Common.{None, sym, ap, ◌∙◌, subst, arith, inl, inr, append_assoc}
 use Rattle.cpu6502.specs.declared.memory.TheConstants.{MEMORY_SIZE}
 use Rattle.asm6502.specs.declared.lines.Line.{Line}
@@ -10,7 +10,7 @@ use Rattle.scopes.specs.Desk.{Layout}
 use Rattle.scope_lines.specs.Lowered.{writes_at}
 use Rattle.scope_calls.specs.Entrances.{entrance_lines, entrance_size}
 use Rattle.scope_calls.specs.Listed.{end_at, listing_at, layout_at, low_at, high_at, IsWellEntered}
-use Rattle.player_memory.specs.declared.labels.TheConstants.{VARIABLES, LENT}
+use Rattle.player_memory.specs.declared.labels.TheConstants.{REST}
 use Rattle.player_code.specs.declared.labels.TheConstants.{INIT_CODE, PLAY_CODE}
 use Rattle.player_code.specs.CodeLines.{front_lines, middle_lines}
 use Rattle.player_code.specs.CodeLines.{play_entrance, init_entrance}
@@ -19,35 +19,37 @@ use Rattle.player_code.specs.Plans.{its_init, play_listed, init_listed}
 use Rattle.player_code.specs.CodeLaws.{CodeAssembles, EntrancesAreInOneListing}
 use Rattle.player_code.specs.CodeLaws.{LabelsStandInPlace, WritesApart, CodeIsWellEntered}
 use Rattle.player_code.proofs.CodeNames.{plan_names}
-use Rattle.player_code.proofs.Homes.{lines_assemble}
+use Rattle.player_code.proofs.Homes.{IsFit, lines_assemble}
 use Rattle.player_code.proofs.Fits.{play_fits, init_fits}
-use Rattle.player_code.proofs.Sizes.{front_size, front_kept, begun_kept, code_is_kept, all_kept, begun_size, code_size_is}
+use Rattle.player_code.proofs.Sizes.{front_size, front_kept, begun_kept, code_is_kept, all_kept, begun_size}
+use Rattle.player_code.proofs.Sizes.{around_size}
 use Rattle.player_code.proofs.Addresses.{variable_address, play_address, init_address, list_address, others_named}
 
 -- ---- it assembles
 
 pub kept_is : (plan : Plan) → IsPlan plan → kept 0 (plan_lines plan) ≡ plan_lines plan
-kept_is plan is =
-    all_kept plan.variables (its_play plan) (its_init plan) plan.lists is.variables is.lists 0
+kept_is plan is = all_kept plan.places plan.variables (its_play plan) (its_init plan) 0 plan.lists is.lists
 
-pub code_kept : (plan : Plan) → IsPlan plan → (set : ℕ) → kept set (plan_code plan) ≡ plan_code plan
-code_kept plan is =
-    code_is_kept plan.variables (its_play plan) (its_init plan) plan.lists is.variables is.lists
+pub code_kept : (plan : Plan) → (set : ℕ) → kept set (plan_code plan) ≡ plan_code plan
+code_kept plan = code_is_kept plan.places plan.variables (its_play plan) (its_init plan)
+
+init_fit : (plan : Plan) → IsPlan plan → IsFit (its_init plan)
+init_fit plan is =
+    let few = is.variables_high in
+    init_fits plan.pointer plan.holds plan.start (length plan.variables) is.start (omega (arith, few)) is.pointer_high
 
 pub code_assembles : CodeAssembles
 code_assembles plan is fits =
-    lines_assemble plan.variables (its_play plan) (its_init plan) plan.lists 0 plan.origin
-    (play_fits plan.pointer plan.holds is.pointer_high) (init_fits plan.pointer plan.holds plan.start is.start
-    is.pointer_high)
-    is.lists.lines (plan_names plan is).once
-    (others_named plan.variables (its_play plan) (its_init plan) plan.lists is.variables is.lists)
+    lines_assemble plan.places plan.variables (its_play plan) (its_init plan) plan.lists 0 plan.origin
+    (play_fits plan.pointer plan.holds is.pointer_high) (init_fit plan is) is.lists.lines (plan_names plan is).once
+    (others_named plan.places plan.variables (its_play plan) (its_init plan) plan.lists is.lists is.places)
     (subst (λ ls. plan.origin + size_of ls ≤ MEMORY_SIZE) (sym (kept_is plan is)) fits)
 
 -- ---- one listing
 
 play_listing : (plan : Plan) → listing_at (play_listed plan) ≡ plan_lines plan
 play_listing plan =
-    let front = front_lines plan.variables in
+    let front = front_lines plan.places plan.variables in
     let play = entrance_lines (its_play plan) in
     let init = entrance_lines (its_init plan) in
     sym (append_assoc front (play ++ (middle_lines ++ init)) plan.lists
@@ -57,7 +59,7 @@ play_listing plan =
 
 init_listing : (plan : Plan) → listing_at (init_listed plan) ≡ plan_lines plan
 init_listing plan =
-    let front = front_lines plan.variables in
+    let front = front_lines plan.places plan.variables in
     let play = entrance_lines (its_play plan) in
     let init = entrance_lines (its_init plan) in
     (append_assoc front (play ++ middle_lines) (init ++ plan.lists)
@@ -92,22 +94,20 @@ entrances_are_in_one_listing plan is = record {
 
 -- ---- in place
 
-play_low : (plan : Plan) → IsPlan plan → low_at (play_listed plan) ≡ plan.origin + (6 + VARIABLES)
-play_low plan is =
-    ap (λ ls. plan.origin + size_of ls) (front_kept 0 plan.variables)
-    ∙ ap (λ n. plan.origin + n) (let size = front_size plan.variables in let all = is.variables in omega (arith, size, all))
+play_low : (plan : Plan) → low_at (play_listed plan) ≡ plan.origin + (6 + length plan.variables)
+play_low plan =
+    ap (λ ls. plan.origin + size_of ls) (front_kept 0 plan.places plan.variables)
+    ∙ ap (λ n. plan.origin + n) (front_size plan.places plan.variables)
 
-init_low : (plan : Plan) → IsPlan plan →
-    low_at (init_listed plan) ≡ plan.origin + (6 + VARIABLES + entrance_size (its_play plan))
-init_low plan is =
-    ap (λ ls. plan.origin + size_of ls)
-    (begun_kept plan.variables (its_play plan) (its_init plan) plan.lists is.variables is.lists 0)
-    ∙ ap (λ n. plan.origin + n)
-    (begun_size plan.variables (its_play plan) (its_init plan) plan.lists is.variables is.lists)
+init_low : (plan : Plan) →
+    low_at (init_listed plan) ≡ plan.origin + (6 + length plan.variables + entrance_size (its_play plan))
+init_low plan =
+    ap (λ ls. plan.origin + size_of ls) (begun_kept plan.places plan.variables (its_play plan) (its_init plan) 0)
+    ∙ ap (λ n. plan.origin + n) (begun_size plan.places plan.variables (its_play plan) (its_init plan))
 
-sizes : (plan : Plan) → IsPlan plan →
-    code_size plan ≡ 6 + VARIABLES + entrance_size (its_play plan) + entrance_size (its_init plan)
-sizes plan is = code_size_is plan.variables (its_play plan) (its_init plan) plan.lists is.variables is.lists
+sizes : (plan : Plan) →
+    code_size plan ≡ 6 + length plan.variables + entrance_size (its_play plan) + entrance_size (its_init plan)
+sizes plan = around_size plan.places plan.variables (its_play plan) (its_init plan)
 
 high_of : (origin front play low : ℕ) → low ≡ origin + front → origin + (front + play) ≡ low + play
 high_of origin front play low e = omega (arith, e)
@@ -118,26 +118,25 @@ end_of origin front play init low code e f = omega (arith, e, f)
 
 pub labels_stand_in_place : LabelsStandInPlace
 labels_stand_in_place plan is =
-    let low = play_low plan is in
-    let begun = init_low plan is in
-    let all = sizes plan is in
-    let high =
-    high_of plan.origin (6 + VARIABLES) (entrance_size (its_play plan)) (low_at (play_listed plan)) low in record {
+    let low = play_low plan in
+    let begun = init_low plan in
+    let all = sizes plan in
+    let front = 6 + length plan.variables in
+    let high = high_of plan.origin front (entrance_size (its_play plan)) (low_at (play_listed plan)) low in record {
       variables = λ label below.
-          variable_address plan.variables (its_play plan) (its_init plan) plan.lists is.variables is.lists plan.origin
-          label below;
-      play =
-          play_address plan.variables (its_play plan) (its_init plan) plan.lists is.variables is.lists plan.origin;
+          variable_address plan.places plan.variables (its_play plan) (its_init plan) plan.lists is.lists plan.origin
+          label below (is.places label below);
+      play = play_address plan.places plan.variables (its_play plan) (its_init plan) plan.lists is.lists plan.origin;
       play_low = low;
       init =
-          init_address plan.variables (its_play plan) (its_init plan) plan.lists is.variables is.lists plan.origin
+          init_address plan.places plan.variables (its_play plan) (its_init plan) plan.lists is.lists plan.origin
           ∙ high;
       init_low = begun ∙ high;
-      init_high = end_of plan.origin (6 + VARIABLES) (entrance_size (its_play plan)) (entrance_size (its_init plan))
+      init_high = end_of plan.origin front (entrance_size (its_play plan)) (entrance_size (its_init plan))
           (low_at (init_listed plan)) (code_size plan) begun all;
       size = all;
       lists = λ label place e.
-          list_address plan.variables (its_play plan) (its_init plan) plan.lists is.variables is.lists plan.origin label
+          list_address plan.places plan.variables (its_play plan) (its_init plan) plan.lists is.lists plan.origin label
           place e;
     }
 
@@ -193,8 +192,9 @@ play_entered plan is begins ends apart =
       jump_ends = omega (arith, end, size, all);
       writes_below = λ place w. apart.below place (writes_of plan (layout_at (play_listed plan)) place layout w);
       writes_outside = λ place w.
-          outside plan.origin (code_size plan) (6 + VARIABLES) (low_at (play_listed plan)) (high_at (play_listed plan))
-          place (apart.outside place (writes_of plan (layout_at (play_listed plan)) place layout w))
+          outside plan.origin (code_size plan) (6 + length plan.variables) (low_at (play_listed plan))
+          (high_at (play_listed plan)) place
+          (apart.outside place (writes_of plan (layout_at (play_listed plan)) place layout w))
           (omega (arith, low)) (omega (arith, low, all));
       writes_off_stack = λ place w.
           apart.off_stack place (writes_of plan (layout_at (play_listed plan)) place layout w);
@@ -208,7 +208,7 @@ init_entered : (plan : Plan) → IsPlan plan → 0x0800 ≤ plan.origin → plan
 unfolding init_entrance
 init_entered plan is begins ends apart =
     let in_place = labels_stand_in_place plan is in
-    let fit = init_fits plan.pointer plan.holds plan.start is.start is.pointer_high in
+    let fit = init_fit plan is in
     let layout = init_layout plan is in
     let size = size_is plan in
     let all = in_place.size in
@@ -216,7 +216,8 @@ init_entered plan is begins ends apart =
     let high = in_place.init_high in
     let first = in_place.play_low in
     let end = ends_with plan (listing_at (init_listed plan)) is (init_listing plan) in
-    let lent = ap (λ (l : Layout). l.address LENT) layout ∙ in_place.variables LENT (omega arith) in
+    let rest = ap (λ (l : Layout). l.address REST) layout ∙ in_place.variables REST (omega arith) in
+    let below = is.places REST (omega arith) in
     record {
       lines = fit.lines;
       assembles = assembles_with plan (listing_at (init_listed plan)) (init_listing plan)
@@ -228,15 +229,16 @@ init_entered plan is begins ends apart =
       jump_ends = omega (arith, end, size, all);
       writes_below = λ place w. apart.below place (writes_of plan (layout_at (init_listed plan)) place layout w);
       writes_outside = λ place w.
-          outside plan.origin (code_size plan) (6 + VARIABLES) (low_at (init_listed plan)) (high_at (init_listed plan))
-          place (apart.outside place (writes_of plan (layout_at (init_listed plan)) place layout w))
+          outside plan.origin (code_size plan) (6 + length plan.variables) (low_at (init_listed plan))
+          (high_at (init_listed plan)) place
+          (apart.outside place (writes_of plan (layout_at (init_listed plan)) place layout w))
           (omega (arith, low, first)) (omega (arith, high));
       writes_off_stack = λ place w.
           apart.off_stack place (writes_of plan (layout_at (init_listed plan)) place layout w);
       stored_outside = λ label e.
-          inl (let same : LENT ≡ label = cc in
+          inl (let same : REST ≡ label = cc in
           subst (λ l. (layout_at (init_listed plan)).address l < low_at (init_listed plan)) same
-          (omega (arith, lent, low, first)));
+          (omega (arith, rest, below, low, first)));
       pointer_low = is.pointer_low;
       pointer_high = is.pointer_high;
     }

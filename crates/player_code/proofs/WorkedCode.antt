@@ -1,7 +1,8 @@
--- The worked plan.
-use Rattle.std.proofs.Common.{◌≡◌, ℕ, ◌+◌, ◌<◌, ◌≤◌, ◌&&◌, ◌||◌, true, false, List}
+-- The worked plans.
+use Rattle.std.proofs.Common.{◌≡◌, ℕ, zero, suc, ◌+◌, ◌<◌, ◌≤◌, ◌&&◌, ◌||◌, Bool, true, false, List}
 use Rattle.std.proofs.Common.{[], ◌∷◌}
 use Rattle.std.proofs.Common.{length, replicate, All, ◌==◌, ◌-◌, nat_le, refl, ap, subst, arith, inl, inr}
+use Rattle.std.proofs.lemmas.List.{length-replicate}
 use Rattle.std.proofs.lemmas.Bool.{or_cases, and_parts, leb-true, eqb-true}
 use Rattle.std.proofs.lemmas.List.Elements.{All-nil, All-cons, All-head}
 use Rattle.cpu6502.specs.declared.mnemonic.Mnemonic.TheVariants.{Rts}
@@ -19,21 +20,52 @@ use Rattle.player_memory.specs.declared.labels.TheConstants.{VARIABLES, LENT, FR
 use Rattle.player_memory.specs.declared.labels.TheConstants.{SLIDES_HIGH, FILTER_LEFTS, NEXT_FILTER_LEFTS}
 use Rattle.player_memory.specs.declared.labels.TheConstants.{FILTER_RIGHTS, ORDERS_LOW, ORDERS_HIGH}
 use Rattle.player_code.specs.declared.labels.TheConstants.{INIT_CODE}
-use Rattle.player_code.specs.CodeLines.{name, byte_line, variable_lines}
+use Rattle.player_code.specs.CodeLines.{name, byte_line, names_at}
 use Rattle.player_code.specs.Plans.{IsListLine, IsData, Plan, IsPlan, is_read, code_size}
-use Rattle.player_code.specs.WorkedCode.{worked_lists, worked_plan, PlansAreMet, CodeIsMeasured, ListsAreRefused}
-use Rattle.player_code.proofs.CodeNames.{variables_name}
-use Rattle.player_code.proofs.Places.{variable_named}
+use Rattle.player_code.specs.WorkedCode.{labelled_lines, worked_lists, plan_with}
+use Rattle.player_code.specs.WorkedCode.{VariablesAreNamed, PlansAreMet, PlansAreRefused, CodeIsMeasured}
+use Rattle.player_code.specs.WorkedCode.{ListsAreRefused}
+use Rattle.player_code.proofs.Naming.{Naming, none_named, one_named, joined, weaker}
+use Rattle.player_code.proofs.Places.{name_named, named_behind}
+use Rattle.player_code.proofs.Variables.{InRow}
 use Rattle.player_code.specs.CodeLaws.{code_takes}
 use Rattle.player_code.proofs.CodeSizes.{code_takes_its_blocks}
 
+pub variables_are_named : VariablesAreNamed
+unfolding names_at
+variables_are_named = refl
+
+-- ---- the lists
+
+-- the labels in a row are named, and no other
+labelled_name : (first : ℕ) (bytes : List ℕ) → Naming (InRow first (length bytes)) (labelled_lines first bytes)
+labelled_name first [] = weaker [] (λ label none. absurd none) (none_named [] (λ label. refl))
+labelled_name first (byte ∷ bytes) =
+    joined (name first ∷ []) (byte_line byte ∷ labelled_lines (first + 1) bytes) (one_named first)
+    (joined (byte_line byte ∷ []) (labelled_lines (first + 1) bytes) (none_named (byte_line byte ∷ []) (λ label. refl))
+    (labelled_name (first + 1) bytes) (λ label none in_row. none) (λ label none. absurd none)
+    (λ label in_row. in_row))
+    (λ label is in_row. omega (arith, is, in_row)) (λ label is. (omega (arith, is), omega (arith, is)))
+    (λ label in_row. (omega (arith, in_row), omega (arith, in_row)))
+
+labelled_named : (first k : ℕ) (bytes : List ℕ) → k < length bytes →
+    IsNamedAlways (labelled_lines first bytes) (first + k)
+labelled_named first k [] below = absurd (omega (arith, below))
+labelled_named first zero (byte ∷ bytes) below =
+    subst (λ label. IsNamedAlways (labelled_lines first (byte ∷ bytes)) label) (omega arith)
+    (name_named first (byte_line byte ∷ labelled_lines (first + 1) bytes))
+labelled_named first (suc k) (byte ∷ bytes) below =
+    named_behind (name first ∷ byte_line byte ∷ []) (labelled_lines (first + 1) bytes) (first + suc k)
+    (subst (λ label. IsNamedAlways (labelled_lines (first + 1) bytes) label) (omega arith)
+    (labelled_named (first + 1) k bytes (omega (arith, below))))
+
 lines_are : (first : ℕ) (bytes : List ℕ) → VARIABLES ≤ first → first + length bytes ≤ INIT_CODE →
-    All IsListLine (variable_lines first bytes)
+    All IsListLine (labelled_lines first bytes)
 lines_are first [] low high = All-nil IsListLine
 lines_are first (byte ∷ bytes) low high =
-    All-cons IsListLine (name first) (byte_line byte ∷ variable_lines (first + 1) bytes)
+    All-cons IsListLine (name first) (byte_line byte ∷ labelled_lines (first + 1) bytes)
     (record { part = refl; item = (low, omega (arith, high)) })
-    (All-cons IsListLine (byte_line byte) (variable_lines (first + 1) bytes) (record { part = refl; item = tt })
+    (All-cons IsListLine (byte_line byte) (labelled_lines (first + 1) bytes) (record { part = refl; item = tt })
     (lines_are (first + 1) bytes (omega (arith, low)) (omega (arith, high))))
 
 -- what is read is in the row
@@ -90,51 +122,85 @@ read_named : (label : ℕ) → is_read label ≡ true → IsNamedAlways worked_l
 read_named label e =
     let row = within label e in
     subst (λ l. IsNamedAlways worked_lists l) (omega (arith, row))
-    (variable_named FREQUENCY_LOWS (label - FREQUENCY_LOWS) (replicate 34 0) (omega (arith, row)))
+    (labelled_named FREQUENCY_LOWS (label - FREQUENCY_LOWS) (replicate 34 0) (omega (arith, row)))
 
 worked_is : IsData worked_lists
 worked_is = record {
   lines = lines_are FREQUENCY_LOWS (replicate 34 0) (omega arith) (omega arith);
-  once = (variables_name FREQUENCY_LOWS (replicate 34 0)).once;
+  once = (labelled_name FREQUENCY_LOWS (replicate 34 0)).once;
   tables = read_named;
 }
 
+-- ---- plans
+
+module _ (places : ℕ → ℕ) (variables : ℕ) (holds : ℕ → Bool) where
+  plan_is : 1 ≤ variables → variables ≤ VARIABLES → ((label : ℕ) → label < VARIABLES → places label < variables) →
+      IsPlan (plan_with places variables holds)
+  plan_is some few below =
+      let count = length-replicate {A = ℕ} variables 0 in record {
+        variables_low = omega (arith, count, some);
+        variables_high = omega (arith, count, few);
+        places = λ label low. (let its = below label low in omega (arith, count, its));
+        pointer_low = omega arith;
+        pointer_high = omega arith;
+        start = record { tempo = omega arith; funk = omega arith; timer_low = omega arith; timer_high = omega arith };
+        lists = worked_is;
+      }
+
 pub plans_are_met : PlansAreMet
-plans_are_met holds = record {
-  variables = refl;
-  pointer_low = omega arith;
-  pointer_high = omega arith;
-  start = record { tempo = omega arith; funk = omega arith; timer_low = omega arith; timer_high = omega arith };
-  lists = worked_is;
+plans_are_met = record {
+  worked = λ holds. plan_is (λ label. label) 113 holds (omega arith) (omega arith) (λ label low. omega (arith, low));
+  small = λ holds. plan_is (λ label. label - 33) 80 holds (omega arith) (omega arith) (λ label low. omega (arith, low));
+}
+
+pub plans_are_refused : PlansAreRefused
+plans_are_refused = record {
+  none = λ holds is. (let low = is.variables_low in omega (arith, low));
+  more = λ holds is. (let high = is.variables_high in omega (arith, high));
+  behind = λ holds is. (let last = is.places 112 (omega arith) in omega (arith, last));
 }
 
 -- ---- how many bytes the code takes
 
-takes : (plan : Plan) → IsPlan plan → code_size plan ≡ code_takes plan.holds plan.start
-takes plan is = code_takes_its_blocks plan.variables plan.pointer plan.holds plan.start is.variables
+takes : (plan : Plan) → code_size plan ≡ code_takes plan.holds plan.start (length plan.variables)
+takes plan = code_takes_its_blocks plan.places plan.variables plan.pointer plan.holds plan.start
 
-sums : (all filter voice init f v i : ℕ) → all ≡ 138 + f + v + i → f ≡ filter → v ≡ voice → i ≡ init →
-    all ≡ 138 + filter + voice + init
-sums all filter voice init f v i e one two three = omega (arith, e, one, two, three)
+sums : (all variables filter voice init n f v i : ℕ) → all ≡ 25 + n + f + v + i → n ≡ variables → f ≡ filter →
+    v ≡ voice → i ≡ init → all ≡ 25 + variables + filter + voice + init
+sums all variables filter voice init n f v i e count one two three = omega (arith, e, count, one, two, three)
 
-bounds : (all f v i mf mv mi : ℕ) → all ≡ 138 + f + v + i → f ≤ mf → v ≤ mv → i ≤ mi → mf ≡ 102 →
-    mv ≡ 1332 → mi ≡ 90 → all ≤ 1662
-bounds all f v i mf mv mi e one two three four five six = omega (arith, e, one, two, three, four, five, six)
+bounds : (all n f v i mf mv mi : ℕ) → all ≡ 25 + n + f + v + i → n ≤ 113 → f ≤ mf → v ≤ mv → i ≤ mi → mf ≡ 102 →
+    mv ≡ 1336 → mi ≡ 90 → all ≤ 1666
+bounds all n f v i mf mv mi e few one two three four five six = omega (arith, e, few, one, two, three, four, five, six)
+
+bare : (places : ℕ → ℕ) (variables : ℕ) →
+    code_size (plan_with places variables (λ condition. false)) ≡ 25 + variables + 16 + 314 + 64
+bare places variables =
+    let plan = plan_with places variables (λ condition. false) in
+    let init = are_measured.init plan.start (length plan.variables) in
+    sums _ _ _ _ _ _ _ _ _ (takes plan) (length-replicate {A = ℕ} variables 0) are_measured.filter.takes_bare
+    are_measured.voice.takes_bare init.takes_bare
+
+full : (places : ℕ → ℕ) (variables : ℕ) →
+    code_size (plan_with places variables (λ condition. true)) ≡ 25 + variables + 102 + 1336 + 90
+full places variables =
+    let plan = plan_with places variables (λ condition. true) in
+    let init = are_measured.init plan.start (length plan.variables) in
+    sums _ _ _ _ _ _ _ _ _ (takes plan) (length-replicate {A = ℕ} variables 0) are_measured.filter.takes_full
+    are_measured.voice.takes_full init.takes_full
 
 pub code_is_measured : CodeIsMeasured
-code_is_measured =
-    let none = worked_plan (λ condition. false) in
-    let all = worked_plan (λ condition. true) in
-    let measured = are_measured in record {
-      bare = sums _ _ _ _ _ _ _ (takes none (plans_are_met none.holds)) measured.filter.takes_bare
-          measured.voice.takes_bare (measured.init none.start).takes_bare;
-      full = sums _ _ _ _ _ _ _ (takes all (plans_are_met all.holds)) measured.filter.takes_full
-          measured.voice.takes_full (measured.init all.start).takes_full;
-      most = λ plan is.
-          bounds _ _ _ _ _ _ _ (takes plan is) (sizes_are_bounded plan.holds filter_tree)
-          (sizes_are_bounded plan.holds voice_tree) (sizes_are_bounded plan.holds (init_tree plan.start))
-          measured.filter.takes_most measured.voice.takes_most (measured.init plan.start).takes_most;
-    }
+code_is_measured = record {
+  bare = bare (λ label. label) 113;
+  full = full (λ label. label) 113;
+  small_bare = bare (λ label. label - 33) 80;
+  small_full = full (λ label. label - 33) 80;
+  most = λ plan is.
+      bounds _ _ _ _ _ _ _ _ (takes plan) is.variables_high (sizes_are_bounded plan.holds filter_tree)
+      (sizes_are_bounded plan.holds voice_tree)
+      (sizes_are_bounded plan.holds (init_tree plan.start (length plan.variables))) are_measured.filter.takes_most
+      are_measured.voice.takes_most (are_measured.init plan.start (length plan.variables)).takes_most;
+}
 
 -- ---- no lists
 
@@ -149,7 +215,7 @@ lists_are_refused = record {
       (ap (λ ls. name SLIDES_HIGH ∷ ls) named.split) refl named.names);
   missing = λ is. (let named = is.tables SLIDES_HIGH refl in
       let row =
-      (variables_name FREQUENCY_LOWS (replicate 33 0)).named named.front named.line named.back SLIDES_HIGH named.split
+      (labelled_name FREQUENCY_LOWS (replicate 33 0)).named named.front named.line named.back SLIDES_HIGH named.split
       named.names in
       omega (arith, row));
 } where

@@ -34,38 +34,40 @@ pub record AreOneListing (plan : Plan) : Type 0 where
 abbrev pub EntrancesAreInOneListing : Type 0
 EntrancesAreInOneListing = (plan : Plan) → IsPlan plan → AreOneListing plan
 
--- where its labels are: the variables stand behind the two jumps, one behind the other; the code that plays a frame
--- behind them, that which begins a subtune behind it, and the lists behind both
+-- where its labels are: the variables stand behind the two jumps, each at its place; the code that plays a frame behind
+-- them, that which begins a subtune behind it, and the lists behind both
 pub record AreInPlace (plan : Plan) : Type 0 where
-  pub variables : (label : ℕ) → label < VARIABLES → (plan_layout plan).address label ≡ plan.origin + (6 + label)
-  pub play : (plan_layout plan).address PLAY_CODE ≡ plan.origin + (6 + VARIABLES)
-  pub play_low : low_at (play_listed plan) ≡ plan.origin + (6 + VARIABLES)
+  pub variables : (label : ℕ) → label < VARIABLES →
+      (plan_layout plan).address label ≡ plan.origin + (6 + plan.places label)
+  pub play : (plan_layout plan).address PLAY_CODE ≡ plan.origin + (6 + length plan.variables)
+  pub play_low : low_at (play_listed plan) ≡ plan.origin + (6 + length plan.variables)
   pub init : (plan_layout plan).address INIT_CODE ≡ high_at (play_listed plan)
   pub init_low : low_at (init_listed plan) ≡ high_at (play_listed plan)
   pub init_high : high_at (init_listed plan) ≡ plan.origin + code_size plan
-  pub size : code_size plan ≡ 6 + VARIABLES + entrance_size (its_play plan) + entrance_size (its_init plan)
+  pub size : code_size plan ≡ 6 + length plan.variables + entrance_size (its_play plan) + entrance_size (its_init plan)
   pub lists : (label place : ℕ) → place_of plan.lists label ≡ Some place →
       (plan_layout plan).address label ≡ plan.origin + code_size plan + place
 
 abbrev pub LabelsStandInPlace : Type 0
 LabelsStandInPlace = (plan : Plan) → IsPlan plan → AreInPlace plan
 
--- The code takes 138 bytes around its blocks: the jumps 6, the variables 113, and the entrances 14 and 5. So its size is
--- the same for any bytes of the variables and any place of the pointer.
-abbrev pub code_takes : (ℕ → Bool) → Start → ℕ
-code_takes holds start = 138 + size holds filter_tree + size holds voice_tree + size holds (init_tree start)
+-- The code takes 25 bytes around its variables and its blocks: the jumps 6, and the entrances 14 and 5. So its size is
+-- the same wherever the variables are, for any bytes of theirs and any place of the pointer.
+abbrev pub code_takes : (ℕ → Bool) → Start → ℕ → ℕ
+code_takes holds start variables =
+    25 + variables + size holds filter_tree + size holds voice_tree + size holds (init_tree start variables)
 
 abbrev pub CodeTakesItsBlocks : Type 0
 CodeTakesItsBlocks =
-    (variables : List ℕ) (pointer : ℕ) (holds : ℕ → Bool) (start : Start) → length variables ≡ VARIABLES →
-    size_of (code_lines variables pointer holds start) ≡ code_takes holds start
+    (places : ℕ → ℕ) (variables : List ℕ) (pointer : ℕ) (holds : ℕ → Bool) (start : Start) →
+    size_of (code_lines places variables pointer holds start) ≡ code_takes holds start (length variables)
 
 -- From $0800 up to $D000 both are well entered, where the blocks write in memory, but nowhere in the entrances' lines or
 -- on the stack.
 pub record WritesApart (plan : Plan) : Type 0 where
   pub below : (place : ℕ) → writes_at (plan_layout plan) place ≡ true → place < MEMORY_SIZE
   pub outside : (place : ℕ) → writes_at (plan_layout plan) place ≡ true →
-      (place < plan.origin + (6 + VARIABLES)) ⊎ (plan.origin + code_size plan ≤ place)
+      (place < plan.origin + (6 + length plan.variables)) ⊎ (plan.origin + code_size plan ≤ place)
   pub off_stack : (place : ℕ) → writes_at (plan_layout plan) place ≡ true → (place < 256) ⊎ (512 ≤ place)
 
 pub record AreWellEntered (plan : Plan) : Type 0 where

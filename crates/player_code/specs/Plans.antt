@@ -39,10 +39,11 @@ pub record IsData (lists : List Line) : Type 0 where
 
 -- ---- plans
 
--- the bytes with which the variables begin, the place of the pointer in page 0, the conditions that hold, the numbers
--- with which a subtune begins, the lines of the lists, the address of the first byte, and where the blocks may read and
--- write
+-- the places of the variables, by their labels, and the bytes with which they begin, by their places; the place of the
+-- pointer in page 0, the conditions that hold, the numbers with which a subtune begins, the lines of the lists, the
+-- address of the first byte, and where the blocks may read and write
 pub record Plan : Type 0 where
+  pub places : ℕ → ℕ
   pub variables : List ℕ
   pub pointer : ℕ
   pub holds : ℕ → Bool
@@ -52,9 +53,11 @@ pub record Plan : Type 0 where
   pub may_read : ℕ → Bool
   pub may_write : ℕ → Bool
 
--- what is asked of them
+-- what is asked of them: there is a byte, but not more than labels, and each label's place is one of the bytes'
 pub record IsPlan (plan : Plan) : Type 0 where
-  pub variables : length plan.variables ≡ VARIABLES
+  pub variables_low : 1 ≤ length plan.variables
+  pub variables_high : length plan.variables ≤ VARIABLES
+  pub places : (label : ℕ) → label < VARIABLES → plan.places label < length plan.variables
   pub pointer_low : 2 ≤ plan.pointer
   pub pointer_high : plan.pointer ≤ 254
   pub start : HasBytes plan.start
@@ -62,7 +65,7 @@ pub record IsPlan (plan : Plan) : Type 0 where
 
 -- the lines of the code, and all lines of the image
 abbrev pub plan_code : Plan → List Line
-plan_code plan = code_lines plan.variables plan.pointer plan.holds plan.start
+plan_code plan = code_lines plan.places plan.variables plan.pointer plan.holds plan.start
 
 abbrev pub plan_lines : Plan → List Line
 plan_lines plan = plan_code plan ++ plan.lists
@@ -90,12 +93,12 @@ abbrev pub its_play : Plan → Entrance
 its_play plan = play_entrance plan.pointer plan.holds
 
 abbrev pub its_init : Plan → Entrance
-its_init plan = init_entrance plan.pointer plan.holds plan.start
+its_init plan = init_entrance plan.pointer plan.holds plan.start (length plan.variables)
 
 -- play is entered 3 bytes behind the first byte of the image
 abbrev pub play_listed : Plan → Listed
 play_listed plan = record {
-  front = front_lines plan.variables;
+  front = front_lines plan.places plan.variables;
   entrance = its_play plan;
   back = middle_lines ++ (entrance_lines (its_init plan) ++ plan.lists);
   set = 0;
@@ -108,7 +111,7 @@ play_listed plan = record {
 -- and init at it
 abbrev pub init_listed : Plan → Listed
 init_listed plan = record {
-  front = front_lines plan.variables ++ (entrance_lines (its_play plan) ++ middle_lines);
+  front = front_lines plan.places plan.variables ++ (entrance_lines (its_play plan) ++ middle_lines);
   entrance = its_init plan;
   back = plan.lists;
   set = 0;

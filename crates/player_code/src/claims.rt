@@ -2,21 +2,23 @@
 
 ghost use Rattle.player_code.specs.CodeLaws.{CodeAssembles, EntrancesAreInOneListing, LabelsStandInPlace};
 ghost use Rattle.player_code.specs.CodeLaws.{CodeTakesItsBlocks, CodeIsWellEntered, AssembledCodeStands};
-ghost use Rattle.player_code.specs.WorkedCode.{PlansAreMet, CodeIsMeasured, ListsAreRefused};
+ghost use Rattle.player_code.specs.WorkedCode.{VariablesAreNamed, PlansAreMet, PlansAreRefused};
+ghost use Rattle.player_code.specs.WorkedCode.{CodeIsMeasured, ListsAreRefused};
 
 /// With any lists behind it the code assembles, at each origin at which all of it fits.
 pub fn code_assembles()
     ensures { CodeAssembles }
 {}
 
-/// Both entrances stand in the one listing. The variables stand behind the two jumps, one behind the other, then the
-/// code that plays a frame, then the code that begins a subtune, and the lists behind that.
+/// Both entrances stand in the one listing. The variables stand behind the two jumps, each at its place, then the code
+/// that plays a frame, then the code that begins a subtune, and the lists behind that.
 pub fn labels_stand_in_place()
     ensures listing { EntrancesAreInOneListing }
     ensures place { LabelsStandInPlace }
 {}
 
-/// The code takes the bytes of its blocks, and 138 around them, whatever its variables and its pointer are.
+/// The code takes the bytes of its variables and of its blocks, and 25 around them, whatever these bytes are and
+/// wherever they and the pointer are.
 pub fn code_takes_its_blocks()
     ensures { CodeTakesItsBlocks }
 {}
@@ -32,10 +34,12 @@ pub fn assembled_code_stands()
     ensures { AssembledCodeStands }
 {}
 
-/// A plan at `$1000`, worked by hand; how many bytes its code takes, without conditions and with all, and that none
-/// takes more; and lists that are none.
+/// Two bytes with the names in front of them; plans at `$1000`, worked by hand, and such as are none; how many bytes
+/// their code takes, without conditions and with all, and that none takes more; and lists that are none.
 pub fn worked_codes()
+    ensures names { VariablesAreNamed }
     ensures plans { PlansAreMet }
+    ensures refused { PlansAreRefused }
     ensures bytes { CodeIsMeasured }
     ensures lists { ListsAreRefused }
 {}

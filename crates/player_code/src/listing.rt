@@ -1,17 +1,17 @@
 //! The lines of the code.
 
-ghost use Rattle.std.specs.Prelude.{◌≡◌, ◌≤◌, ◌++◌, ◌∷◌, [], OnOk, IfOk};
+ghost use Rattle.std.specs.Prelude.{◌≡◌, ◌≤◌, ◌++◌, ◌∷◌, [], length, slice_index, OnOk, IfOk};
 ghost use Rattle.scope_lines.specs.Readings.{holds_in};
 ghost use Rattle.scope_calls.specs.Entrances.{entrance_lines};
 ghost use Rattle.player_text.specs.Texts.{filter_lines, voice_lines, init_lines};
-ghost use Rattle.player_code.specs.CodeLines.{jump_to, name, byte_line, variable_lines, jump_lines, front_lines};
-ghost use Rattle.player_code.specs.CodeLines.{play_entrance, init_entrance, middle_lines, code_lines};
+ghost use Rattle.player_code.specs.CodeLines.{jump_to, name, byte_line, names_at, variable_lines, jump_lines};
+ghost use Rattle.player_code.specs.CodeLines.{front_lines, play_entrance, init_entrance, middle_lines, code_lines};
 
 use crate::labels::{INIT_CODE, PLAY_CODE};
 use asm6502::{Item, Line, Listing, Operand};
 use base::{ByteList, NoMemory};
 use cpu6502::{Mnemonic, Mode};
-use player_memory::labels::LENT;
+use player_memory::labels::REST;
 use player_text::texts::{self, Start};
 use scope_calls::{Setup, push_entrance};
 use scope_lines::{Conditions, Line as Text};
@@ -59,28 +59,43 @@ fn push_jumps(listing: &mut Listing) -> Result<(), NoMemory>
     listing.push(jump_to(PLAY_CODE))
 }
 
-/// The variables, each with its label.
+/// The names of all labels of variables that have this place.
+fn push_names(listing: &mut Listing, places: &[u8; 113], place: u8) -> Result<(), NoMemory>
+    ensures { OnOk result (listing.new ≡ listing.old ++ names_at (slice_index places.now) place) }
+{
+    for (label, label_place) in places.iter().enumerate() {
+        if *label_place == place {
+            listing.push(name(label as u16))?;
+        }
+    }
+    Ok(())
+}
+
+/// The variables, each behind the names of its labels.
 fn push_variables(
     alloc: Global,
     listing: &mut Listing,
-    variables: &[u8; 113],
+    variables: &[u8],
+    places: &[u8; 113],
 ) -> Result<(), NoMemory>
-    ensures { OnOk result (listing.new ≡ listing.old ++ variable_lines 0 variables.now) }
+    requires { length variables.now ≤ 113 }
+    ensures { OnOk result (listing.new ≡ listing.old ++ variable_lines (slice_index places.now) 0 variables.now) }
 {
-    for (label, byte) in variables.iter().enumerate() {
-        listing.push(name(label as u16))?;
+    for (place, byte) in variables.iter().enumerate() {
+        push_names(listing, places, place as u8)?;
         listing.push(byte_line(alloc, *byte)?)?;
     }
     Ok(())
 }
 
 /// What stands in front of the code that plays a frame.
-fn front(alloc: Global, variables: &[u8; 113]) -> Result<Listing, NoMemory>
-    ensures { IfOk result (λ listing. listing ≡ front_lines variables.now) }
+fn front(alloc: Global, variables: &[u8], places: &[u8; 113]) -> Result<Listing, NoMemory>
+    requires { length variables.now ≤ 113 }
+    ensures { IfOk result (λ listing. listing ≡ front_lines (slice_index places.now) variables.now) }
 {
     let mut listing = Listing::new(alloc);
     push_jumps(&mut listing)?;
-    push_variables(alloc, &mut listing, variables)?;
+    push_variables(alloc, &mut listing, variables, places)?;
     listing.push(name(PLAY_CODE))?;
     Ok(listing)
 }
@@ -137,16 +152,17 @@ fn push_subtune(
     zero_page: u8,
     conditions: Conditions,
     start: Start,
+    variables: u8,
     init: &[Text],
 ) -> Result<(), NoMemory>
-    requires { init.now ≡ init_lines start }
+    requires { init.now ≡ init_lines start variables }
     ensures { OnOk result (listing.new
-        ≡ listing.old ++ entrance_lines (init_entrance zero_page (holds_in conditions.0) start)) }
+        ≡ listing.old ++ entrance_lines (init_entrance zero_page (holds_in conditions.0) start variables)) }
 {
-    let _start = start;
+    let (_start, _variables) = (start, variables);
     let setup = Setup {
         label: INIT_CODE,
-        stored: Some(LENT),
+        stored: Some(REST),
         pointer: zero_page,
         conditions,
     };
@@ -160,40 +176,54 @@ fn push_init(
     zero_page: u8,
     conditions: Conditions,
     start: Start,
+    variables: u8,
 ) -> Result<(), NoMemory>
+    requires { 1 ≤ variables }
     ensures { OnOk result (listing.new
-        ≡ listing.old ++ entrance_lines (init_entrance zero_page (holds_in conditions.0) start)) }
+        ≡ listing.old ++ entrance_lines (init_entrance zero_page (holds_in conditions.0) start variables)) }
 {
-    let init = texts::init(alloc, start)?;
+    let init = texts::init(alloc, start, variables)?;
     push_subtune(
         alloc,
         listing,
         zero_page,
         conditions,
         start,
+        variables,
         init.as_slice(),
     )
 }
 
-/// The lines of an image in front of its lists: two jumps, the variables with the bytes that they begin with, and the
-/// code, of which those lines are kept whose conditions hold. The pointer is at two bytes of page 0, from 2 to 254.
+/// The lines of an image in front of its lists: two jumps, the variables with the bytes that they begin with, 1 to 113,
+/// behind the names of those of the 113 labels that have their place, and the code, of which those lines are kept whose
+/// conditions hold. The pointer is at two bytes of page 0, from 2 to 254.
 ///
 /// # Errors
 ///
 /// Out of memory.
 pub fn code_listing(
     alloc: Global,
-    variables: &[u8; 113],
+    variables: &[u8],
+    places: &[u8; 113],
     zero_page: u8,
     conditions: Conditions,
     start: Start,
 ) -> Result<Listing, NoMemory>
+    requires some { 1 ≤ length variables.now }
+    requires most { length variables.now ≤ 113 }
     ensures { IfOk result (λ listing. listing
-        ≡ code_lines variables.now zero_page (holds_in conditions.0) start) }
+        ≡ code_lines (slice_index places.now) variables.now zero_page (holds_in conditions.0) start) }
 {
-    let mut listing = front(alloc, variables)?;
+    let mut listing = front(alloc, variables, places)?;
     push_play(alloc, &mut listing, zero_page, conditions)?;
     listing.push(name(INIT_CODE))?;
-    push_init(alloc, &mut listing, zero_page, conditions, start)?;
+    push_init(
+        alloc,
+        &mut listing,
+        zero_page,
+        conditions,
+        start,
+        variables.len() as u8,
+    )?;
     Ok(listing)
 }

@@ -7,6 +7,7 @@ use Rattle.std.proofs.lemmas.Bool.{cases_eq, ne_eqb}
 use Rattle.std.proofs.lemmas.List.{append-nil, take-append-drop}
 use Rattle.std.proofs.lemmas.List.Sorted.{Contains-permutation, IsPermutation-sym}
 use Rattle.play_model.specs.declared.options.Options.{Options}
+use Rattle.scope_calls.specs.Entrances.{Entrance, entrance_size}
 use Rattle.packed_form.specs.declared.packed_songs.PackedSong.{PackedSong}
 use Rattle.asm6502.specs.declared.lines.Line.{Line}
 use Rattle.asm6502.specs.Lines.{kept, item_size, size_of, place_of, address_in}
@@ -21,9 +22,11 @@ use Rattle.song_lists.specs.DataLists.{data_bytes, data_marks, order_places, Has
 use Rattle.song_lists.specs.ListLaws.{KeepsCounts}
 use Rattle.song_lists.proofs.Laws.{lines_are_kept, lines_take_size, labels_have_places}
 use Rattle.player_code.specs.CodeLines.{code_lines, play_entrance, init_entrance}
-use Rattle.player_image.specs.Images.{image_holds, code_bytes, numbered, first_order, IsListingOf}
+use Rattle.player_image.specs.Images.{image_holds, image_places, image_count, image_variables, code_bytes, numbered}
+use Rattle.player_image.specs.Images.{first_order, IsListingOf}
 use Rattle.player_image.specs.Systems.{ImagesAreOne}
 use Rattle.player_image.proofs.Begun.{variables_are_one}
+use Rattle.player_image.proofs.Placed.{placed_length}
 use Rattle.player_image.proofs.Places.{SamePlaces, same_self, same_both, same_addresses, code_same}
 
 -- ---- a label among marks
@@ -150,17 +153,28 @@ module _ (dependent : Bool) (packed : PackedSong) (start : ℕ) where
 
 -- ---- images
 
--- the code with these variables
+-- the code with these variables, by their labels
 abbrev with_variables : PackedSong → Options → ℕ → List ℕ → List Line
-with_variables packed o pointer variables = code_lines variables pointer (image_holds packed o) (start_of o)
+with_variables packed o pointer variables =
+    code_lines (image_places packed o) (image_variables packed o variables) pointer (image_holds packed o) (start_of o)
+
+abbrev init_with : PackedSong → Options → ℕ → List ℕ → Entrance
+init_with packed o pointer variables =
+    init_entrance pointer (image_holds packed o) (start_of o) (length (image_variables packed o variables))
 
 module _ (packed : PackedSong) (o : Options) (origin pointer : ℕ) (counts : KeepsCounts packed) (one two : List Line)
     (here : IsListingOf packed o origin pointer one) (there : IsListingOf packed o origin pointer two) where
+  its_count : length (image_variables packed o here.variables) ≡ length (image_variables packed o there.variables)
+  its_count =
+      placed_length (image_places packed o) (image_count packed o) here.variables
+      ∙ sym (placed_length (image_places packed o) (image_count packed o) there.variables)
+
   its_code : SamePlaces (with_variables packed o pointer here.variables) (with_variables packed o pointer there.variables)
   its_code =
-      code_same here.variables there.variables (play_entrance pointer (image_holds packed o))
-      (init_entrance pointer (image_holds packed o) (start_of o))
-      (init_entrance pointer (image_holds packed o) (start_of o)) (here.all ∙ sym there.all) refl
+      code_same (image_places packed o) (image_variables packed o here.variables)
+      (image_variables packed o there.variables) (play_entrance pointer (image_holds packed o))
+      (init_with packed o pointer here.variables) (init_with packed o pointer there.variables) its_count
+      (ap (λ n. entrance_size (init_entrance pointer (image_holds packed o) (start_of o) n)) its_count)
 
   its_lists : HasLines (image_holds packed o NOTE_DEPENDENT) packed (origin + code_bytes packed o pointer here.variables)
       there.lists

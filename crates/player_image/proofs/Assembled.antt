@@ -14,9 +14,13 @@ use Rattle.player_memory.specs.declared.conditions.TheConstants.{NOTE_DEPENDENT}
 use Rattle.kept_lines.specs.Starts.{start_of}
 use Rattle.song_lists.specs.ListLaws.{KeepsCounts}
 use Rattle.song_lists.proofs.Laws.{lines_take_size, lines_are_few}
+use Rattle.variable_places.proofs.Laws.{counts_are_few}
+use Rattle.player_code.specs.CodeLaws.{code_takes}
 use Rattle.player_code.specs.Plans.{IsPlan, plan_code, plan_lines, plan_size}
 use Rattle.player_code.proofs.Laws.{code_assembles, size_is, kept_is, code_is_few, code_takes_its_blocks, data_append}
-use Rattle.player_image.specs.Images.{image_holds, code_bytes, plan_of, IsListingOf, IsImageOf, image_size}
+use Rattle.player_image.specs.Images.{image_holds, image_places, image_count, image_variables, code_bytes, plan_of}
+use Rattle.player_image.specs.Images.{IsListingOf, IsImageOf, image_size}
+use Rattle.player_image.proofs.Placed.{placed_length}
 use Rattle.player_image.proofs.Made.{plan_is}
 
 module _ (packed : PackedSong) (o : Options) (origin pointer : ℕ) (speed : IsSpeed o.speed) (counts : KeepsCounts packed)
@@ -24,12 +28,28 @@ module _ (packed : PackedSong) (o : Options) (origin pointer : ℕ) (speed : IsS
     (fits : origin + image_size packed o ≤ 0xD000) (listing : List Line)
     (is : IsListingOf packed o origin pointer listing) where
   plan_here : IsPlan (plan_of packed o origin pointer is.variables is.lists)
-  plan_here = plan_is packed o origin pointer speed counts low high is.variables is.lists is.all is.has_lines
+  plan_here = plan_is packed o origin pointer speed counts low high is.variables is.lists is.has_lines
+
+  -- so many variables
+  its_count : length (image_variables packed o is.variables) ≡ image_count packed o
+  its_count = placed_length (image_places packed o) (image_count packed o) is.variables
+
+  -- so the code takes the bytes that an image's code does
+  takes_same : code_takes (image_holds packed o) (start_of o) (length (image_variables packed o is.variables))
+      ≡ code_takes (image_holds packed o) (start_of o) (image_count packed o)
+  takes_same = ap (λ n. code_takes (image_holds packed o) (start_of o) n) its_count
+
+  code_takes_here : code_bytes packed o pointer is.variables
+      ≡ code_takes (image_holds packed o) (start_of o) (image_count packed o)
+  code_takes_here =
+      code_takes_its_blocks (image_places packed o) (image_variables packed o is.variables) pointer
+      (image_holds packed o) (start_of o)
+      ∙ takes_same
 
   pub its_size : plan_size (plan_of packed o origin pointer is.variables is.lists) ≡ image_size packed o
   its_size =
       let all = size_is (plan_of packed o origin pointer is.variables is.lists) in
-      let code = code_takes_its_blocks is.variables pointer (image_holds packed o) (start_of o) is.all in
+      let code = code_takes_here in
       let lists = (lines_take_size (image_holds packed o NOTE_DEPENDENT) packed
       (origin + code_bytes packed o pointer is.variables) is.lists is.has_lines).0 in
       omega (arith, all, code, lists)
@@ -42,21 +62,26 @@ module _ (packed : PackedSong) (o : Options) (origin pointer : ℕ) (speed : IsS
 
   lines_fit : length (plan_lines (plan_of packed o origin pointer is.variables is.lists)) ≤ 1000000
   lines_fit =
-      let code = code_is_few is.variables pointer (image_holds packed o) (start_of o) is.all in
+      let code = code_is_few (image_places packed o) (image_variables packed o is.variables) pointer
+      (image_holds packed o) (start_of o) in
       let few = code.lines in
+      let takes = takes_same in
       let lists = lines_are_few (image_holds packed o NOTE_DEPENDENT) packed
       (origin + code_bytes packed o pointer is.variables) is.lists counts is.has_lines in
       let all = length-append (plan_code (plan_of packed o origin pointer is.variables is.lists)) is.lists in
-      omega (arith, few, lists, all, fits)
+      omega (arith, few, takes, lists, all, fits)
 
   bytes_fit : data_size (plan_lines (plan_of packed o origin pointer is.variables is.lists)) ≤ 1000000
   bytes_fit =
-      let code = code_is_few is.variables pointer (image_holds packed o) (start_of o) is.all in
+      let code = code_is_few (image_places packed o) (image_variables packed o is.variables) pointer
+      (image_holds packed o) (start_of o) in
       let raw = code.bytes in
+      let count = its_count in
+      let most = (counts_are_few (image_holds packed o)).1 in
       let lists = (lines_take_size (image_holds packed o NOTE_DEPENDENT) packed
       (origin + code_bytes packed o pointer is.variables) is.lists is.has_lines).1 in
       let all = data_append (plan_code (plan_of packed o origin pointer is.variables is.lists)) is.lists in
-      omega (arith, raw, lists, all, fits)
+      omega (arith, raw, count, most, lists, all, fits)
 
   pub few_lines : length listing ≤ 1000000
   few_lines = subst (λ ls. length ls ≤ 1000000) (sym is.are) lines_fit

@@ -2,11 +2,13 @@
 pub mod Laws
 -- The lists behind the code, and the room of all.
 mod Lists
+mod Placing
 mod Laying
 -- What stands in memory.
 mod Standing
 mod Beginning
 -- An image.
+mod Placed
 mod Whole
 mod Made
 mod Assembled

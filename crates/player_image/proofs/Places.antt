@@ -1,7 +1,7 @@
 -- Lines whose labels stand at the same places, whichever bytes and numbers are in them.
 use mathlib.Core.Path.{fun_ext}
-use Rattle.std.proofs.Common.{◌≡◌, ℕ, ◌+◌, List, [], ◌∷◌, ◌++◌, length, nat_eq, if◌then◌else◌}
-use Rattle.std.proofs.Common.{Option, Some, unwrap_or, refl, sym, ap, ◌∙◌, arith}
+use Rattle.std.proofs.Common.{◌≡◌, ℕ, ◌+◌, List, [], ◌∷◌, ◌++◌, length}
+use Rattle.std.proofs.Common.{Option, unwrap_or, refl, sym, ap, ◌∙◌, arith}
 use Rattle.std.specs.Option.{option_or, option_map}
 use Rattle.asm6502.specs.declared.lines.Line.{Line}
 use Rattle.asm6502.specs.Lines.{size_of, place_of, address_in}
@@ -9,7 +9,8 @@ use Rattle.asm6502.proofs.Laws.{size_of-append, place_of-append}
 use Rattle.scope_calls.specs.Entrances.{Entrance, entrance_lines, entrance_size}
 use Rattle.scope_calls.proofs.Laws.{entrances_take_size, entrance_names_none}
 use Rattle.player_code.specs.declared.labels.TheConstants.{PLAY_CODE}
-use Rattle.player_code.specs.CodeLines.{name, variable_lines, jump_lines, front_lines, middle_lines, lines_around}
+use Rattle.player_code.specs.CodeLines.{name, byte_line, names_at, variable_lines, jump_lines, front_lines}
+use Rattle.player_code.specs.CodeLines.{middle_lines, lines_around}
 
 -- two lists of lines take as many bytes, and each label is at one place in both
 pub record SamePlaces (one two : List Line) : Type 0 where
@@ -45,20 +46,21 @@ same_addresses one two origin same =
 
 -- ---- the code
 
-variables_same : (first : ℕ) (one two : List ℕ) → length one ≡ length two →
-    SamePlaces (variable_lines first one) (variable_lines first two)
-variables_same first [] [] all = same_self []
-variables_same first [] (byte ∷ bytes) all = absurd (omega (arith, all))
-variables_same first (byte ∷ bytes) [] all = absurd (omega (arith, all))
-variables_same first (byte ∷ bytes) (other ∷ others) all =
-    let rest = variables_same (first + 1) bytes others (omega (arith, all)) in
-    record {
+-- other bytes behind the names of the same labels
+variables_same : (places : ℕ → ℕ) (first : ℕ) (one two : List ℕ) → length one ≡ length two →
+    SamePlaces (variable_lines places first one) (variable_lines places first two)
+variables_same places first [] [] all = same_self []
+variables_same places first [] (byte ∷ bytes) all = absurd (omega (arith, all))
+variables_same places first (byte ∷ bytes) [] all = absurd (omega (arith, all))
+variables_same places first (byte ∷ bytes) (other ∷ others) all =
+    let rest = variables_same places (first + 1) bytes others (omega (arith, all)) in
+    same_both (names_at places first) (names_at places first)
+    (byte_line byte ∷ variable_lines places (first + 1) bytes)
+    (byte_line other ∷ variable_lines places (first + 1) others) (same_self (names_at places first))
+    (record {
       size = let size = rest.size in omega (arith, size);
-      places = λ label.
-          ap (λ (place : Option ℕ).
-          if nat_eq first label then Some 0 else option_map (λ p. 0 + p) (option_map (λ p. 1 + p) place))
-          (rest.places label);
-    }
+      places = λ label. ap (λ (place : Option ℕ). option_map (λ p. 1 + p) place) (rest.places label);
+    })
 
 -- the lines of an entrance name no label
 pub entrance_same : (one two : Entrance) → entrance_size one ≡ entrance_size two →
@@ -69,15 +71,17 @@ entrance_same one two size = record {
 }
 
 -- the variables may begin with other bytes, and what begins a subtune may be other lines of the same size
-pub code_same : (one two : List ℕ) (play init other : Entrance) → length one ≡ length two →
-    entrance_size init ≡ entrance_size other → SamePlaces (lines_around one play init) (lines_around two play other)
-code_same one two play init other all size =
-    same_both (front_lines one) (front_lines two) (entrance_lines play ++ (middle_lines ++ entrance_lines init))
+pub code_same : (places : ℕ → ℕ) (one two : List ℕ) (play init other : Entrance) → length one ≡ length two →
+    entrance_size init ≡ entrance_size other →
+    SamePlaces (lines_around places one play init) (lines_around places two play other)
+code_same places one two play init other all size =
+    same_both (front_lines places one) (front_lines places two)
+    (entrance_lines play ++ (middle_lines ++ entrance_lines init))
     (entrance_lines play ++ (middle_lines ++ entrance_lines other))
-    (same_both jump_lines jump_lines (variable_lines 0 one ++ name PLAY_CODE ∷ [])
-    (variable_lines 0 two ++ name PLAY_CODE ∷ []) (same_self jump_lines)
-    (same_both (variable_lines 0 one) (variable_lines 0 two) (name PLAY_CODE ∷ []) (name PLAY_CODE ∷ [])
-    (variables_same 0 one two all) (same_self (name PLAY_CODE ∷ []))))
+    (same_both jump_lines jump_lines (variable_lines places 0 one ++ name PLAY_CODE ∷ [])
+    (variable_lines places 0 two ++ name PLAY_CODE ∷ []) (same_self jump_lines)
+    (same_both (variable_lines places 0 one) (variable_lines places 0 two) (name PLAY_CODE ∷ []) (name PLAY_CODE ∷ [])
+    (variables_same places 0 one two all) (same_self (name PLAY_CODE ∷ []))))
     (same_both (entrance_lines play) (entrance_lines play) (middle_lines ++ entrance_lines init)
     (middle_lines ++ entrance_lines other) (same_self (entrance_lines play))
     (same_both middle_lines middle_lines (entrance_lines init) (entrance_lines other) (same_self middle_lines)

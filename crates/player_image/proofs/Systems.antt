@@ -19,7 +19,7 @@ use Rattle.kept_lines.specs.Starts.{start_of}
 use Rattle.kept_lines.proofs.Laws.{sets_are_exact}
 use Rattle.song_lists.specs.DataLists.{order_places, HasLines}
 use Rattle.player_code.specs.CodeLines.{code_lines, play_entrance, init_entrance}
-use Rattle.player_image.specs.Images.{image_holds, numbered, IsListingOf}
+use Rattle.player_image.specs.Images.{image_holds, image_places, image_variables, code_bytes, numbered, IsListingOf}
 use Rattle.player_image.specs.Systems.{timer_code, AreAlikeButTimer, SystemsShareImages, TimerCodesAreWorked}
 use Rattle.player_image.proofs.Places.{SamePlaces, same_self, same_both, code_same}
 use Rattle.player_image.proofs.Alone.{images_are_one}
@@ -32,38 +32,40 @@ abbrev on_system : System → Options → Options
 on_system system o = record o { system = system }
 
 -- with these lists behind the code
-abbrev lines_on : System → List ℕ → ℕ → (ℕ → Bool) → Options → List Line → List Line
-lines_on system variables pointer holds o lists =
-    code_lines variables pointer holds (start_of (on_system system o)) ++ lists
+abbrev lines_on : System → (ℕ → ℕ) → List ℕ → ℕ → (ℕ → Bool) → Options → List Line → List Line
+lines_on system places variables pointer holds o lists =
+    code_lines places variables pointer holds (start_of (on_system system o)) ++ lists
 
-module _ (variables : List ℕ) (pointer : ℕ) (holds : ℕ → Bool) (o : Options) (lists : List Line) where
+module _ (places : ℕ → ℕ) (variables : List ℕ) (pointer : ℕ) (holds : ℕ → Bool) (o : Options)
+    (lists : List Line) where
   split_lines : (system : System) (timed : Bool) → holds TIMED ≡ timed →
-      lines_on system variables pointer holds o lists
-      ≡ before_timer variables pointer holds
+      lines_on system places variables pointer holds o lists
+      ≡ before_timer places variables pointer holds
       ++ (if_timed timed (timer_value system o.speed % 256) (timer_value system o.speed / 256)
-      ++ behind_timer pointer holds (start_of o).tempo (start_of o).funk lists)
+      ++ behind_timer pointer holds (start_of o).tempo (start_of o).funk (length variables) lists)
   split_lines system timed is =
-      around variables pointer holds (start_of (on_system system o)) lists
+      around places variables pointer holds (start_of (on_system system o)) lists
       ∙ ap (λ z.
-      before_timer variables pointer holds
+      before_timer places variables pointer holds
       ++ (if_timed z (timer_value system o.speed % 256) (timer_value system o.speed / 256)
-      ++ behind_timer pointer holds (start_of o).tempo (start_of o).funk lists)) is
+      ++ behind_timer pointer holds (start_of o).tempo (start_of o).funk (length variables) lists)) is
 
   timed_lines : (system : System) → holds TIMED ≡ true →
-      kept 0 (lines_on system variables pointer holds o lists)
-      ≡ with_timer (kept 0 (before_timer variables pointer holds)) system o.speed
-      (kept 0 (behind_timer pointer holds (start_of o).tempo (start_of o).funk lists))
+      kept 0 (lines_on system places variables pointer holds o lists)
+      ≡ with_timer (kept 0 (before_timer places variables pointer holds)) system o.speed
+      (kept 0 (behind_timer pointer holds (start_of o).tempo (start_of o).funk (length variables) lists))
   timed_lines system timed =
       ap (kept 0) (split_lines system true timed)
-      ∙ kept_timer system o.speed (before_timer variables pointer holds)
-      (behind_timer pointer holds (start_of o).tempo (start_of o).funk lists)
+      ∙ kept_timer system o.speed (before_timer places variables pointer holds)
+      (behind_timer pointer holds (start_of o).tempo (start_of o).funk (length variables) lists)
 
   faster_alike : (origin : ℕ) (one two : System) → IsSpeed o.speed → holds TIMED ≡ true →
-      AreAlikeButTimer o.speed one two (assembled_bytes 0 origin (lines_on one variables pointer holds o lists))
-      (assembled_bytes 0 origin (lines_on two variables pointer holds o lists))
+      AreAlikeButTimer o.speed one two (assembled_bytes 0 origin (lines_on one places variables pointer holds o lists))
+      (assembled_bytes 0 origin (lines_on two places variables pointer holds o lists))
   faster_alike origin one two is timed =
-      let alike = alike_around (kept 0 (before_timer variables pointer holds))
-      (kept 0 (behind_timer pointer holds (start_of o).tempo (start_of o).funk lists)) origin o.speed one two is in
+      let alike = alike_around (kept 0 (before_timer places variables pointer holds))
+      (kept 0 (behind_timer pointer holds (start_of o).tempo (start_of o).funk (length variables) lists)) origin o.speed
+      one two is in
       record {
         before = alike.before;
         behind = alike.behind;
@@ -72,49 +74,61 @@ module _ (variables : List ℕ) (pointer : ℕ) (holds : ℕ → Bool) (o : Opti
       }
 
   once_same : (origin : ℕ) (one two : System) → holds TIMED ≡ false →
-      assembled_bytes 0 origin (lines_on one variables pointer holds o lists)
-      ≡ assembled_bytes 0 origin (lines_on two variables pointer holds o lists)
+      assembled_bytes 0 origin (lines_on one places variables pointer holds o lists)
+      ≡ assembled_bytes 0 origin (lines_on two places variables pointer holds o lists)
   once_same origin one two untimed =
       ap (assembled_bytes 0 origin) (split_lines one false untimed ∙ sym (split_lines two false untimed))
 
   -- labels are at the same places for each
   its_code : (one two : System) →
-      SamePlaces (code_lines variables pointer holds (start_of (on_system one o)))
-      (code_lines variables pointer holds (start_of (on_system two o)))
+      SamePlaces (code_lines places variables pointer holds (start_of (on_system one o)))
+      (code_lines places variables pointer holds (start_of (on_system two o)))
   its_code one two =
-      code_same variables variables (play_entrance pointer holds)
-      (init_entrance pointer holds (start_of (on_system one o)))
-      (init_entrance pointer holds (start_of (on_system two o))) refl
-      (init_sizes pointer holds (start_of (on_system one o)) (start_of (on_system two o)))
+      code_same places variables variables (play_entrance pointer holds)
+      (init_entrance pointer holds (start_of (on_system one o)) (length variables))
+      (init_entrance pointer holds (start_of (on_system two o)) (length variables)) refl
+      (init_sizes pointer holds (start_of (on_system one o)) (start_of (on_system two o)) (length variables))
 
   places_same : (one two : System) →
-      SamePlaces (lines_on one variables pointer holds o lists) (lines_on two variables pointer holds o lists)
+      SamePlaces (lines_on one places variables pointer holds o lists)
+      (lines_on two places variables pointer holds o lists)
   places_same one two =
-      same_both (code_lines variables pointer holds (start_of (on_system one o)))
-      (code_lines variables pointer holds (start_of (on_system two o))) lists lists (its_code one two) (same_self lists)
+      same_both (code_lines places variables pointer holds (start_of (on_system one o)))
+      (code_lines places variables pointer holds (start_of (on_system two o))) lists lists (its_code one two)
+      (same_self lists)
 
 -- ---- images
 
+-- the lines with these variables, by their labels
+abbrev image_lines : PackedSong → Options → System → ℕ → List ℕ → List Line → List Line
+image_lines packed o system pointer variables lists =
+    lines_on system (image_places packed o) (image_variables packed o variables) pointer (image_holds packed o) o lists
+
 module _ (packed : PackedSong) (o : Options) (other : System) (origin pointer : ℕ) (listing : List Line)
     (here : IsListingOf packed o origin pointer listing) where
+  size_same : code_bytes packed o pointer here.variables ≡ code_bytes packed (on_system other o) pointer here.variables
+  unfolding kept_set
+  size_same =
+      (its_code (image_places packed o) (image_variables packed o here.variables) pointer (image_holds packed o) o
+      here.lists o.system other).size
+
   -- with the same variables and lists there is a listing for the other system
   moved : IsListingOf packed (on_system other o) origin pointer
-      (lines_on other here.variables pointer (image_holds packed o) o here.lists)
+      (image_lines packed o other pointer here.variables here.lists)
   unfolding kept_set
   moved = record {
     variables = here.variables;
     lists = here.lists;
     all = here.all;
     has_lines =
-        subst (λ n. HasLines (image_holds packed o NOTE_DEPENDENT) packed (origin + n) here.lists)
-        (its_code here.variables pointer (image_holds packed o) o here.lists o.system other).size here.has_lines;
+        subst (λ n. HasLines (image_holds packed o NOTE_DEPENDENT) packed (origin + n) here.lists) size_same
+        here.has_lines;
     first =
         subst (λ (n : ℕ).
         Begins numbered (start_of o).tempo (start_of o).funk
         (λ voice. origin + n + slice_index (order_places (image_holds packed o NOTE_DEPENDENT) packed) voice)
         (slice_index here.variables))
-        (its_code here.variables pointer (image_holds packed o) o here.lists o.system other).size
-        here.first;
+        size_same here.first;
     are = refl;
   }
 
@@ -122,27 +136,25 @@ pub systems_share_images : SystemsShareImages
 systems_share_images packed o other origin pointer one two counts speed here there =
     let timer : image_holds packed o TIMED ≡ nat_lt 1 o.speed = sets_are_exact (asked_by packed) o TIMED in
     let mine : one ≡ assembled_bytes 0 origin
-    (lines_on o.system here.its.variables pointer (image_holds packed o) o here.its.lists) =
+    (image_lines packed o o.system pointer here.its.variables here.its.lists) =
     here.are ∙ ap (assembled_bytes 0 origin) here.its.are in
-    let its : two ≡ assembled_bytes 0 origin
-    (lines_on other here.its.variables pointer (image_holds packed o) o here.its.lists) =
+    let its : two ≡ assembled_bytes 0 origin (image_lines packed o other pointer here.its.variables here.its.lists) =
     images_are_one packed (on_system other o) origin pointer two
-    (assembled_bytes 0 origin (lines_on other here.its.variables pointer (image_holds packed o) o here.its.lists)) counts
-    there
+    (assembled_bytes 0 origin (image_lines packed o other pointer here.its.variables here.its.lists)) counts there
     (record {
-      listing = lines_on other here.its.variables pointer (image_holds packed o) o here.its.lists;
+      listing = image_lines packed o other pointer here.its.variables here.its.lists;
       its = moved packed o other origin pointer here.listing here.its;
       are = refl;
     }) in
     record {
       once = λ slow.
           mine
-          ∙ (once_same here.its.variables pointer (image_holds packed o) o here.its.lists origin o.system other
-          (timer ∙ le-ltb 1 o.speed slow)
+          ∙ (once_same (image_places packed o) (image_variables packed o here.its.variables) pointer
+          (image_holds packed o) o here.its.lists origin o.system other (timer ∙ le-ltb 1 o.speed slow)
           ∙ sym its);
       faster = λ fast.
-          let alike = faster_alike here.its.variables pointer (image_holds packed o) o here.its.lists origin o.system
-          other speed (timer ∙ lt-ltb 1 o.speed fast) in
+          let alike = faster_alike (image_places packed o) (image_variables packed o here.its.variables) pointer
+          (image_holds packed o) o here.its.lists origin o.system other speed (timer ∙ lt-ltb 1 o.speed fast) in
           record {
             before = alike.before;
             behind = alike.behind;

@@ -1,7 +1,7 @@
 -- The lines of an image around those that set the timer, and what these are assembled to.
-use Rattle.std.proofs.Common.{◌≡◌, ℕ, zero, suc, ◌+◌, ◌/◌, ◌%◌, Bool, if◌then◌else◌, List, [], ◌∷◌, ◌++◌}
-use Rattle.std.proofs.Common.{Some, refl, ap, ◌∙◌, arith, append_assoc}
-use Rattle.cpu6502.specs.declared.mnemonic.Mnemonic.TheVariants.{Lda, Rts, Sta}
+use Rattle.std.proofs.Common.{◌≡◌, ℕ, zero, suc, ◌+◌, ◌-◌, ◌/◌, ◌%◌, Bool, if◌then◌else◌, List, [], ◌∷◌, ◌++◌}
+use Rattle.std.proofs.Common.{length, Some, refl, ap, ◌∙◌, arith, append_assoc}
+use Rattle.cpu6502.specs.declared.mnemonic.Mnemonic.TheVariants.{Lda, Ldx, Rts, Sta}
 use Rattle.cpu6502.specs.declared.mnemonic.Mode.TheVariants.{Implied, Immediate, Absolute}
 use Rattle.asm6502.specs.declared.lines.Operand.TheVariants.{Nothing, Number}
 use Rattle.asm6502.specs.declared.lines.Line.{Line}
@@ -18,8 +18,8 @@ use Rattle.scope_lines.specs.Instructions.{code}
 use Rattle.scope_lines.specs.Lines.{block_lines}
 use Rattle.scope_calls.specs.Entrances.{lead_lines, entrance_lines, entrance_size}
 use Rattle.player_memory.specs.declared.conditions.TheConstants.{TIMED, FUNK_TEMPO}
-use Rattle.player_memory.specs.declared.labels.TheConstants.{LENT}
-use Rattle.player_text.specs.declared.init.TheConstants.{SUBTUNE_TAKEN, ALL_CLEARED}
+use Rattle.player_memory.specs.declared.labels.TheConstants.{REST}
+use Rattle.player_text.specs.declared.init.TheConstants.{SUBTUNE_TAKEN, REGISTERS_CLEARED, VARIABLES_CLEARED}
 use Rattle.player_text.specs.declared.init.TheConstants.{FUNK_STARTED, VOICES_STARTED, VOICE_STARTED, TEMPO_STARTED}
 use Rattle.player_text.specs.declared.texts.Start.{Start}
 use Rattle.player_code.specs.declared.labels.TheConstants.{INIT_CODE}
@@ -42,66 +42,71 @@ if_timed timed low high = if timed then timer_lines low high else []
 
 -- what stands in front of them
 abbrev taken_lines : ℕ → (ℕ → Bool) → List Line
-taken_lines pointer holds = lead_lines (Some LENT) ++ block_lines INIT_CODE pointer holds 4 (tree_of SUBTUNE_TAKEN.now)
+taken_lines pointer holds = lead_lines (Some REST) ++ block_lines INIT_CODE pointer holds 4 (tree_of SUBTUNE_TAKEN.now)
 
 -- and behind them: the block's other lines, and the return
-abbrev started_tree : ℕ → ℕ → Tree
-started_tree tempo funk =
-    tree_of (ALL_CLEARED.now
+abbrev started_tree : ℕ → ℕ → ℕ → Tree
+started_tree tempo funk count =
+    tree_of ((REGISTERS_CLEARED.now ++ With Ldx (Numeral (count - 1)) ∷ VARIABLES_CLEARED.now)
     ++ (When FUNK_TEMPO ∷ With Lda (Numeral funk) ∷ (FUNK_STARTED.now ++ End ∷ [])
     ++ (VOICES_STARTED.now
     ++ Loop 3 ∷ (VOICE_STARTED.now ++ With Lda (Numeral tempo) ∷ (TEMPO_STARTED.now ++ End ∷ [])))))
 
-abbrev started_block : ℕ → (ℕ → Bool) → ℕ → ℕ → List Line
-started_block pointer holds tempo funk =
-    block_lines INIT_CODE pointer holds (10 + (if holds TIMED then 10 else 0)) (started_tree tempo funk)
+abbrev started_block : ℕ → (ℕ → Bool) → ℕ → ℕ → ℕ → List Line
+started_block pointer holds tempo funk count =
+    block_lines INIT_CODE pointer holds (10 + (if holds TIMED then 10 else 0)) (started_tree tempo funk count)
 
-abbrev pub started_lines : ℕ → (ℕ → Bool) → ℕ → ℕ → List Line
-started_lines pointer holds tempo funk = started_block pointer holds tempo funk ++ code Rts Implied Nothing ∷ []
+abbrev pub started_lines : ℕ → (ℕ → Bool) → ℕ → ℕ → ℕ → List Line
+started_lines pointer holds tempo funk count =
+    started_block pointer holds tempo funk count ++ code Rts Implied Nothing ∷ []
 
-init_lines_are : (pointer : ℕ) (holds : ℕ → Bool) (start : Start) →
-    entrance_lines (init_entrance pointer holds start)
+init_lines_are : (pointer : ℕ) (holds : ℕ → Bool) (start : Start) (count : ℕ) →
+    entrance_lines (init_entrance pointer holds start count)
     ≡ taken_lines pointer holds
-    ++ (if_timed (holds TIMED) start.timer_low start.timer_high ++ started_lines pointer holds start.tempo start.funk)
+    ++ (if_timed (holds TIMED) start.timer_low start.timer_high
+    ++ started_lines pointer holds start.tempo start.funk count)
 unfolding init_entrance
-init_lines_are pointer holds start =
+init_lines_are pointer holds start count =
     ap (λ ls. taken_lines pointer holds ++ ls)
     (append_assoc (if_timed (holds TIMED) start.timer_low start.timer_high)
-    (started_block pointer holds start.tempo start.funk) (code Rts Implied Nothing ∷ []))
+    (started_block pointer holds start.tempo start.funk count) (code Rts Implied Nothing ∷ []))
 
 -- it takes as many bytes, whatever the numbers are
-pub init_sizes : (pointer : ℕ) (holds : ℕ → Bool) (start other : Start) →
-    entrance_size (init_entrance pointer holds start) ≡ entrance_size (init_entrance pointer holds other)
+pub init_sizes : (pointer : ℕ) (holds : ℕ → Bool) (start other : Start) (count : ℕ) →
+    entrance_size (init_entrance pointer holds start count) ≡ entrance_size (init_entrance pointer holds other count)
 unfolding init_entrance
-init_sizes pointer holds start other = refl
+init_sizes pointer holds start other count = refl
 
 -- ---- all lines
 
 -- what stands in front of the timer's lines, and what behind them
-abbrev pub before_timer : List ℕ → ℕ → (ℕ → Bool) → List Line
-before_timer variables pointer holds =
-    front_lines variables
+abbrev pub before_timer : (ℕ → ℕ) → List ℕ → ℕ → (ℕ → Bool) → List Line
+before_timer places variables pointer holds =
+    front_lines places variables
     ++ (entrance_lines (play_entrance pointer holds) ++ (middle_lines ++ taken_lines pointer holds))
 
-abbrev pub behind_timer : ℕ → (ℕ → Bool) → ℕ → ℕ → List Line → List Line
-behind_timer pointer holds tempo funk lists = started_lines pointer holds tempo funk ++ lists
+abbrev pub behind_timer : ℕ → (ℕ → Bool) → ℕ → ℕ → ℕ → List Line → List Line
+behind_timer pointer holds tempo funk count lists = started_lines pointer holds tempo funk count ++ lists
 
 regrouped : (a b c d t e h : List Line) →
     (a ++ (b ++ (c ++ (d ++ (t ++ e))))) ++ h ≡ (a ++ (b ++ (c ++ d))) ++ (t ++ (e ++ h))
 regrouped a b c d t e h = simp append_assoc
 
-pub around : (variables : List ℕ) (pointer : ℕ) (holds : ℕ → Bool) (start : Start) (lists : List Line) →
-    code_lines variables pointer holds start ++ lists
-    ≡ before_timer variables pointer holds
+pub around : (places : ℕ → ℕ) (variables : List ℕ) (pointer : ℕ) (holds : ℕ → Bool) (start : Start)
+    (lists : List Line) →
+    code_lines places variables pointer holds start ++ lists
+    ≡ before_timer places variables pointer holds
     ++ (if_timed (holds TIMED) start.timer_low start.timer_high
-    ++ behind_timer pointer holds start.tempo start.funk lists)
-around variables pointer holds start lists =
+    ++ behind_timer pointer holds start.tempo start.funk (length variables) lists)
+around places variables pointer holds start lists =
     ap (λ init.
-    (front_lines variables ++ (entrance_lines (play_entrance pointer holds) ++ (middle_lines ++ init))) ++ lists)
-    (init_lines_are pointer holds start)
-    ∙ regrouped (front_lines variables) (entrance_lines (play_entrance pointer holds)) middle_lines
+    (front_lines places variables
+    ++ (entrance_lines (play_entrance pointer holds) ++ (middle_lines ++ init)))
+    ++ lists)
+    (init_lines_are pointer holds start (length variables))
+    ∙ regrouped (front_lines places variables) (entrance_lines (play_entrance pointer holds)) middle_lines
     (taken_lines pointer holds) (if_timed (holds TIMED) start.timer_low start.timer_high)
-    (started_lines pointer holds start.tempo start.funk) lists
+    (started_lines pointer holds start.tempo start.funk (length variables)) lists
 
 -- ---- the bytes
 

@@ -1,5 +1,5 @@
 -- Each image is a player, and so plays its song.
-use Rattle.std.proofs.Common.{◌≡◌, ℕ, ◌+◌, ◌<◌, List, length, slice_index, refl, sym, ap, ◌∙◌, subst}
+use Rattle.std.proofs.Common.{◌≡◌, ℕ, ◌+◌, ◌<◌, Bool, List, length, slice_index, refl, sym, ap, ◌∙◌, subst}
 use Rattle.std.proofs.Common.{arith}
 use Rattle.song_model.specs.declared.songs.Song.{Song}
 use Rattle.play_model.specs.declared.options.Options.{Options}
@@ -22,16 +22,23 @@ use Rattle.song_lists.proofs.Laws.{labels_have_places, first_orders_are_marked}
 use Rattle.player_text.specs.Facts.{HasBytes}
 use Rattle.player_memory.specs.declared.conditions.TheConstants.{NOTE_DEPENDENT}
 use Rattle.kept_lines.specs.Starts.{start_of}
+use Rattle.kept_blocks.specs.KeptBlocks.{KeepsLines}
 use Rattle.kept_blocks.proofs.Laws.{sets_keep_their_lines}
 use Rattle.player_code.specs.Plans.{Plan, IsPlan, plan_lines, plan_size, plan_layout}
+use Rattle.variable_places.proofs.Laws.{places_are_within, counts_are_few, first_is_first}
+use Rattle.player_calls.specs.WideLayouts.{wide_layout, with_zeros}
 use Rattle.player_calls.specs.Players.{IsPlayer, HasImage}
 use Rattle.player_code.proofs.Laws.{labels_stand_in_place}
 use Rattle.player_calls.proofs.Laws.{players_play, players_are_isolated, players_hold_the_start, songs_have_subtunes}
-use Rattle.player_image.specs.Images.{image_holds, code_bytes, plan_of, numbered, first_order, IsImageOf}
+use Rattle.player_calls.proofs.Laws.{wide_at}
+use Rattle.player_image.specs.Images.{image_holds, image_places, image_count, code_bytes, plan_of, first_order}
+use Rattle.player_image.specs.Images.{IsImageOf}
+use Rattle.player_image.proofs.Placed.{placed_length}
 use Rattle.player_image.specs.ImageLaws.{Stands, ImagesArePlayers, ImagesPlay}
 use Rattle.player_image.proofs.Lists.{lists_are_data}
-use Rattle.player_image.proofs.Laying.{Laid, reads, reads_variables, reads_lists, writes, sets_timer, player_layout}
-use Rattle.player_image.proofs.Standing.{lists_stand, variables_stand}
+use Rattle.player_image.proofs.Laying.{Laid, reads, reads_variables, reads_lists, writes, writes_read, sets_timer}
+use Rattle.player_image.proofs.Laying.{lists_inside, slides_inside, player_layout}
+use Rattle.player_image.proofs.Standing.{lists_stand, own_stand, spare_stand}
 use Rattle.player_image.proofs.Beginning.{begins_moved}
 
 -- the numbers with which a subtune begins are bytes
@@ -68,14 +75,18 @@ module _ (packed : PackedSong) (song : Song) (o : Options) (origin pointer : ℕ
     (image : IsImageOf packed o origin pointer bytes) (s : Stands packed o origin pointer bytes image)
     (stands : StandsFor packed song) where
   its_plan : IsPlan (plan_of packed o origin pointer image.its.variables image.its.lists)
-  its_plan = record {
-    variables = image.its.all;
-    pointer_low = s.pointer_low;
-    pointer_high = s.pointer_high;
-    start = start_bytes o s.speed;
-    lists = lists_are_data (image_holds packed o NOTE_DEPENDENT) packed
-        (origin + code_bytes packed o pointer image.its.variables) image.its.lists s.counts image.its.has_lines;
-  }
+  its_plan =
+      let count = placed_length (image_places packed o) (image_count packed o) image.its.variables in
+      let few = counts_are_few (image_holds packed o) in record {
+        variables_low = omega (arith, count, few);
+        variables_high = omega (arith, count, few);
+        places = λ label less. (let place = places_are_within (image_holds packed o) label less in omega (arith, place, count));
+        pointer_low = s.pointer_low;
+        pointer_high = s.pointer_high;
+        start = start_bytes o s.speed;
+        lists = lists_are_data (image_holds packed o NOTE_DEPENDENT) packed
+            (origin + code_bytes packed o pointer image.its.variables) image.its.lists s.counts image.its.has_lines;
+      }
 
   laid : Laid packed o origin pointer image.its.variables image.its.lists
   laid =
@@ -84,11 +95,14 @@ module _ (packed : PackedSong) (song : Song) (o : Options) (origin pointer : ℕ
       record { is = its_plan; counts = s.counts; has = image.its.has_lines; begins = s.begins; ends = omega (arith, size, ends) }
 
   -- where the first subtune's orderlists stand
-  order_address : (voice : ℕ) → voice < 3 →
-      (plan_layout (plan_of packed o origin pointer image.its.variables image.its.lists)).address (order_label 0 voice)
+  order_address : (which : Bool) (voice : ℕ) → voice < 3 →
+      (wide_layout (plan_of packed o origin pointer image.its.variables image.its.lists) which).address
+      (order_label 0 voice)
       ≡ first_order packed o origin pointer image.its.variables voice
-  order_address voice few =
-      ap (plan_layout (plan_of packed o origin pointer image.its.variables image.its.lists)).address (omega arith)
+  order_address which voice few =
+      wide_at (plan_of packed o origin pointer image.its.variables image.its.lists) which (order_label 0 voice)
+      (λ less. absurd (omega (arith, less)))
+      ∙ ap (plan_layout (plan_of packed o origin pointer image.its.variables image.its.lists)).address (omega arith)
       ∙ (labels_stand_in_place (plan_of packed o origin pointer image.its.variables image.its.lists) its_plan).lists
       (ORDERS + voice) _
       (labels_have_places (image_holds packed o NOTE_DEPENDENT) packed
@@ -97,25 +111,34 @@ module _ (packed : PackedSong) (song : Song) (o : Options) (origin pointer : ℕ
       s.counts image.its.has_lines
       (first_orders_are_marked (image_holds packed o NOTE_DEPENDENT) packed voice few (songs_have_subtunes packed song stands)))
 
-  first : (at : ℕ → ℕ) → HasImage (plan_of packed o origin pointer image.its.variables image.its.lists) at →
-      Begins (plan_layout (plan_of packed o origin pointer image.its.variables image.its.lists)) (start_of o).tempo
+  first : (which : Bool) (at : ℕ → ℕ) →
+      HasImage (plan_of packed o origin pointer image.its.variables image.its.lists) at →
+      Begins (wide_layout (plan_of packed o origin pointer image.its.variables image.its.lists) which) (start_of o).tempo
       (start_of o).funk
       (λ voice.
-      (plan_layout (plan_of packed o origin pointer image.its.variables image.its.lists)).address (order_label 0 voice))
-      at
-  first at has =
-      addressed (plan_layout (plan_of packed o origin pointer image.its.variables image.its.lists)) (start_of o).tempo
-      (start_of o).funk (first_order packed o origin pointer image.its.variables) _ at
-      (λ voice few. sym (order_address voice few))
-      (begins_moved numbered (plan_layout (plan_of packed o origin pointer image.its.variables image.its.lists))
-      (start_of o).tempo (start_of o).funk _ (slice_index image.its.variables) at (λ condition on. refl)
-      (λ label below. variables_stand packed o origin pointer image.its.variables image.its.lists laid at has label below)
-      image.its.first)
+      (wide_layout (plan_of packed o origin pointer image.its.variables image.its.lists) which).address
+      (order_label 0 voice)) (with_zeros which at)
+  first which at has =
+      addressed (wide_layout (plan_of packed o origin pointer image.its.variables image.its.lists) which)
+      (start_of o).tempo (start_of o).funk (first_order packed o origin pointer image.its.variables) _
+      (with_zeros which at) (λ voice few. sym (order_address which voice few))
+      (begins_moved (wide_layout (plan_of packed o origin pointer image.its.variables image.its.lists) which)
+      (slice_index image.its.variables) (with_zeros which at)
+      (own_stand packed o origin pointer image.its.variables image.its.lists laid at has which)
+      (spare_stand packed o origin pointer image.its.variables image.its.lists laid at has which) (start_of o).tempo
+      (start_of o).funk _ image.its.first)
 
   is_player : IsPlayer (plan_of packed o origin pointer image.its.variables image.its.lists) packed song o bytes
   is_player =
       let kept = sets_keep_their_lines (plan_layout (plan_of packed o origin pointer image.its.variables image.its.lists))
       packed.features.0 packed.facts o (λ condition. refl) in
+      let wide : (which : Bool) →
+      KeepsLines (wide_layout (plan_of packed o origin pointer image.its.variables image.its.lists) which)
+      packed.features.0 packed.facts o =
+      λ which.
+      sets_keep_their_lines
+      (wide_layout (plan_of packed o origin pointer image.its.variables image.its.lists) which) packed.features.0
+      packed.facts o (λ condition. refl) in
       let few = s.counts.subtunes in
       record {
         is = its_plan;
@@ -130,17 +153,23 @@ module _ (packed : PackedSong) (song : Song) (o : Options) (origin pointer : ℕ
         start = refl;
         features = kept.features_are;
         facts = kept.facts_are;
-        shared = kept.shared;
-        common = kept.common;
-        options = kept.options_are;
+        shared = λ which. (wide which).shared;
+        common = λ which. (wide which).common;
+        options = λ which. (wide which).options_are;
         timed = kept.timer;
         laid = player_layout packed o origin pointer image.its.variables image.its.lists laid;
+        first = (first_is_first (image_holds packed o)).1;
         timer = sets_timer packed o origin pointer image.its.variables image.its.lists;
         reads_variables = reads_variables packed o origin pointer image.its.variables image.its.lists;
         reads_lists = reads_lists packed o origin pointer image.its.variables image.its.lists;
         reads = reads packed o origin pointer image.its.variables image.its.lists;
+        writes_variables = λ place is.
+            writes_read packed o origin pointer image.its.variables image.its.lists place
+            (reads_variables packed o origin pointer image.its.variables image.its.lists place is);
+        inside = lists_inside packed o origin pointer image.its.variables image.its.lists laid;
+        slides = slides_inside packed o origin pointer image.its.variables image.its.lists laid;
         writes = writes packed o origin pointer image.its.variables image.its.lists;
-        lists = λ at has. lists_stand packed o origin pointer image.its.variables image.its.lists laid at has;
+        lists = λ which at has. lists_stand packed o origin pointer image.its.variables image.its.lists laid at has which;
         variables = first;
       }
 
@@ -163,8 +192,8 @@ images_play packed song o origin pointer bytes image s stands =
       always = players_play (plan_of packed o origin pointer image.its.variables image.its.lists) packed song o bytes player;
       isolated =
           players_are_isolated (plan_of packed o origin pointer image.its.variables image.its.lists) packed song o bytes player;
-      start = λ at stand.
+      start = λ which at stand.
           players_hold_the_start (plan_of packed o origin pointer image.its.variables image.its.lists) packed song o bytes
-          at player
+          which at player
           (has_image (plan_of packed o origin pointer image.its.variables image.its.lists) bytes at player.are player.size stand);
     }

@@ -1,5 +1,5 @@
 -- What holds of images: each is a player, and so plays its song. This is the project's own player.
-use Rattle.std.specs.Prelude.{◌≡◌, ℕ, ◌+◌, ◌≤◌, List, length}
+use Rattle.std.specs.Prelude.{◌≡◌, ℕ, ◌+◌, ◌≤◌, Bool, List, length}
 use Rattle.song_model.specs.declared.songs.Song.{Song}
 use Rattle.play_model.specs.declared.options.Options.{Options}
 use Rattle.play_model.specs.Speeds.{IsSpeed}
@@ -12,7 +12,8 @@ use Rattle.faithful.specs.Isolation.{IsIsolated}
 use Rattle.player_memory.specs.Holds.{Holds}
 use Rattle.frame_scenes.specs.FrameScenes.{KeepsPatternLimits}
 use Rattle.song_lists.specs.ListLaws.{KeepsCounts}
-use Rattle.player_code.specs.Plans.{plan_size, plan_layout}
+use Rattle.player_code.specs.Plans.{plan_size}
+use Rattle.player_calls.specs.WideLayouts.{wide_layout, with_zeros}
 use Rattle.player_calls.specs.Players.{IsPlayer}
 use Rattle.player_image.specs.Images.{IsImageOf, plan_of}
 
@@ -37,13 +38,14 @@ ImagesArePlayers =
     IsPlayer (plan_of packed o origin pointer image.its.variables image.its.lists) packed song o bytes
 
 -- so it plays each song that the packed song stands for, and in any memory with its bytes the start of the first subtune
--- stands at the addresses of its labels
+-- stands, where each variable without a byte has a spare zero, from $0200 on or from $0300 on
 pub record ImagePlays (packed : PackedSong) (song : Song) (o : Options) (origin pointer : ℕ) (bytes : List ℕ)
     (image : IsImageOf packed o origin pointer bytes) : Type 0 where
   pub always : PlaysAlways bytes origin pointer song o
   pub isolated : IsIsolated bytes origin song
-  pub start : (at : ℕ → ℕ) → BytesStand at origin bytes →
-      Holds (plan_layout (plan_of packed o origin pointer image.its.variables image.its.lists)) packed 0 (start_state o) at
+  pub start : (which : Bool) (at : ℕ → ℕ) → BytesStand at origin bytes →
+      Holds (wide_layout (plan_of packed o origin pointer image.its.variables image.its.lists) which) packed 0
+      (start_state o) (with_zeros which at)
 
 abbrev pub ImagesPlay : Type 0
 ImagesPlay =

@@ -9,7 +9,7 @@ ghost use Rattle.asm6502.specs.Faults.{fault_of};
 ghost use Rattle.song_lists.specs.ListLaws.{KeepsCounts};
 ghost use Rattle.player_image.specs.Images.{IsListingOf, IsImageOf, image_size};
 
-use crate::variables::start_variables;
+use crate::variables::{placed, start_variables};
 use asm6502::{AsmFault, Listing, MOST_BYTES, MOST_LINES, PartSet, assemble};
 use base::{ByteList, NoMemory};
 use kept_lines::{asked_by, conditions, start_of};
@@ -19,6 +19,7 @@ use player_code::{code_listing, code_size};
 use player_memory::conditions::NOTE_DEPENDENT;
 use song_lists::{data_listing, first_orders};
 use std::alloc::Global;
+use variable_places::variable_places;
 
 /// A packed song has at most 32 subtunes and at most 208 patterns, and a speed is from 1 to 4.
 fn keep_limits(packed: &PackedSong, options: &Options)
@@ -47,10 +48,19 @@ fn image_listing(
     let conditions = conditions(asked_by(packed), *options);
     let start = start_of(options);
     let dependent = conditions.hold(NOTE_DEPENDENT);
-    let first = origin + code_size(alloc, conditions, start)?;
+    let stand = variable_places(conditions);
+    let first = origin + code_size(alloc, conditions, start, stand.count)?;
     let orders = first_orders(alloc, packed, first, dependent)?;
-    let variables = start_variables(options, orders);
-    let mut listing = code_listing(alloc, &variables, zero_page, conditions, start)?;
+    let labelled = start_variables(options, orders);
+    let variables = placed(alloc, &labelled, &stand.places, stand.count)?;
+    let mut listing = code_listing(
+        alloc,
+        variables.as_slice(),
+        &stand.places,
+        zero_page,
+        conditions,
+        start,
+    )?;
     let mut lists = data_listing(alloc, packed, first, dependent)?;
     listing.append(&mut lists)?;
     Ok(listing)

@@ -1,16 +1,18 @@
-//! The bytes with which an image's variables begin.
+//! The bytes with which an image's variables begin, by their labels and in the order of their places.
 
-ghost use Rattle.std.specs.Prelude.{◌≡◌, ◌+◌, ◌/◌, ◌%◌, ◌≤◌, length, slice_index, slice_set};
+ghost use Rattle.std.specs.Prelude.{◌≡◌, ◌+◌, ◌/◌, ◌%◌, ◌≤◌, length, slice_index, slice_set, IfOk};
 ghost use Rattle.player_memory.specs.declared.labels.TheConstants.{VARIABLES};
 ghost use Rattle.player_memory.specs.Starting.{Begins};
 ghost use Rattle.kept_lines.specs.Starts.{start_of};
-ghost use Rattle.player_image.specs.Images.{numbered};
+ghost use Rattle.player_image.specs.Images.{numbered, label_at, byte_of, placed};
 
+use base::{ByteList, NoMemory};
 use kept_lines::start_of;
 use play_model::Options;
 use player_memory::labels::{
     FUNK_ONE, FUNK_TWO, GATE, INSTRUMENT, ORDER_HIGH, ORDER_LOW, TEMPO, TICK, VIB_DELAY, VOLUME,
 };
+use std::alloc::Global;
 
 /// Sets the bytes of a voice that don't begin with 0. They stand `behind` bytes behind those of the first voice, and the
 /// voice's orderlist has this address.
@@ -47,4 +49,36 @@ pub fn start_variables(options: &Options, orders: [u16; 3]) -> [u8; 113]
     variables[FUNK_ONE as usize] = start.funk;
     variables[FUNK_TWO as usize] = start.tempo;
     variables
+}
+
+/// The byte at a place: that of the first label that has it, 0 where none has.
+fn byte_at(variables: &[u8; 113], places: &[u8; 113], place: u8) -> u8
+    ensures { result ≡ byte_of variables.now (label_at (slice_index places.now) place) }
+{
+    for label in 0..113 {
+        if places[label] == place {
+            return variables[label];
+        }
+    }
+    0
+}
+
+/// Bytes that are given by their labels, in the order of their places, of which there are so many.
+///
+/// # Errors
+///
+/// Out of memory.
+pub fn placed(
+    alloc: Global,
+    variables: &[u8; 113],
+    places: &[u8; 113],
+    count: u8,
+) -> Result<ByteList, NoMemory>
+    ensures { IfOk result (λ bytes. bytes ≡ placed (slice_index places.now) count variables.now) }
+{
+    let mut bytes = ByteList::new(alloc);
+    for place in 0..count {
+        bytes.push(byte_at(variables, places, place))?;
+    }
+    Ok(bytes)
 }

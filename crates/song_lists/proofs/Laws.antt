@@ -8,6 +8,7 @@ pub use Rattle.song_lists.proofs.DataLines.{lines_are_plain, lines_are_kept, lin
 -- their labels: each once, no other than these, those that the player reads by, and where each is
 pub use Rattle.song_lists.proofs.DataLines.{no_label_is_named_twice, own_labels_are_named, list_labels_are_named}
 pub use Rattle.song_lists.proofs.DataLines.{labels_have_places}
+pub use Rattle.song_lists.proofs.DataMarks.{are_data_labels}
 -- among them those of the first subtune's orderlists
 pub use Rattle.song_lists.proofs.Standing.{first_orders_are_marked}
 -- the lists in memory, among these bytes and beside the slides

@@ -31,10 +31,11 @@ elsewhere layout packed start place room inside beside =
     let pointer = room.pointer in
     let from = inside.from in
     let to = inside.to in record {
-      variables = elim room.variables [
-        | inl front ↦ inl (omega arith)
-        | inr behind ↦ inr (omega arith)
-      ];
+      variables = λ label few e.
+          elim (room.variables label few) [
+            | inl front ↦ omega arith
+            | inr behind ↦ omega arith
+          ];
       slides_low = beside.low;
       slides_high = beside.high;
       low = omega arith;
@@ -69,18 +70,20 @@ slides_are layout packed start room e =
       low = record {
         from = omega arith;
         to = omega arith;
-        outside = elim room.variables [
-          | inl front ↦ inl (omega arith)
-          | inr behind ↦ inr (omega arith)
-        ];
+        outside = λ variable few.
+            elim (room.variables variable few) [
+              | inl front ↦ inl (omega arith)
+              | inr behind ↦ inr (omega arith)
+            ];
       };
       high = record {
         from = omega arith;
         to = omega arith;
-        outside = elim room.variables [
-          | inl front ↦ inl (omega arith)
-          | inr behind ↦ inr (omega arith)
-        ];
+        outside = λ variable few.
+            elim (room.variables variable few) [
+              | inl front ↦ inl (omega arith)
+              | inr behind ↦ inr (omega arith)
+            ];
       };
       apart = inl apart;
     }

@@ -2,7 +2,7 @@
 use Rattle.std.proofs.Common.{◌/◌, ◌≡◌, ℕ, zero, suc, ◌+◌, ◌-◌, ◌<◌, ◌≤◌, ◌&&◌, ◌⊎◌, inl, inr}
 use Rattle.std.proofs.Common.{Bool, true, false}
 use Rattle.std.proofs.Common.{List, [], ◌∷◌, length, get_or, nat_eq, refl, sym, ap, subst, ◌∙◌, arith, Contains}
-use Rattle.std.proofs.lemmas.Bool.{eqb-true, eqb-false, and_parts}
+use Rattle.std.proofs.lemmas.Bool.{eqb-true, eqb-false, and_parts, lt-ltb}
 use Rattle.std.proofs.lemmas.List.Elements.{Contains-get_or}
 use Rattle.song_model.specs.LookUp.{table_row}
 use Rattle.play_model.specs.Freq.{freq}
@@ -88,7 +88,7 @@ plain_room packed is =
       laid = data_laid plain_layout false packed 0x1FCD plain_marks (plain_marks_are packed is) refl;
       from = omega arith;
       to = omega arith;
-      variables = inl (omega arith);
+      variables = λ label few. (let e = lt-ltb label 113 few in rw e (inr (omega arith)));
       pointer = omega arith;
       reads = λ place inside. refl;
     }
@@ -99,7 +99,7 @@ kept_room packed is =
       laid = data_laid kept_layout true packed 0x1FC7 kept_marks (kept_marks_are packed is) refl;
       from = omega arith;
       to = omega arith;
-      variables = inl (omega arith);
+      variables = λ label few. (let e = lt-ltb label 113 few in rw e (inr (omega arith)));
       pointer = omega arith;
       reads = λ place inside. refl;
     }
@@ -189,10 +189,16 @@ other_layouts_are_not packed is =
           other_label plain_layout false packed 0x1FCE plain_marks 0 plain (omega arith) refl room.laid;
       low = λ room. (let from = room.from in omega arith);
       high = λ room. (let to = room.to in omega arith);
-      variables = λ room. elim room.variables [
-        | inl front ↦ omega arith
-        | inr behind ↦ omega arith
-      ];
+      first_variable = λ room.
+          elim (room.variables 0 (omega arith)) [
+            | inl front ↦ omega arith
+            | inr behind ↦ omega arith
+          ];
+      last_variable = λ room.
+          elim (room.variables 112 (omega arith)) [
+            | inl front ↦ omega arith
+            | inr behind ↦ omega arith
+          ];
       pointer = λ room. (let at = room.pointer in omega arith);
       unread = λ room.
           let may = room.reads 0x2007 (record { from = omega arith; to = omega arith }) in absurd (cc);

@@ -197,8 +197,8 @@ pub record IsListRoom (layout : Layout) (packed : PackedSong) (start : ℕ) : Ty
   pub laid : IsDataLayout layout (layout.holds NOTE_DEPENDENT) packed start
   pub from : 0x0800 ≤ start
   pub to : start + lists_size (layout.holds NOTE_DEPENDENT) packed ≤ 0xD000
-  pub variables : (start + lists_size (layout.holds NOTE_DEPENDENT) packed ≤ layout.address 0)
-      ⊎ (layout.address 0 + VARIABLES ≤ start)
+  pub variables : (label : ℕ) → label < VARIABLES → (layout.address label < start)
+      ⊎ (start + lists_size (layout.holds NOTE_DEPENDENT) packed ≤ layout.address label)
   pub pointer : layout.pointer ≤ 254
   pub reads : (place : ℕ) → IsInside layout packed start place → layout.may_read place ≡ true
 

@@ -120,8 +120,9 @@ pub record OtherLayoutsAreNot (packed : PackedSong) : Type 0 where
   -- too low, too high
   pub low : ¬ IsListRoom (laid_out false 0x07FF plain_marks) packed 0x07FF
   pub high : ¬ IsListRoom (laid_out false 0xCFC6 plain_marks) packed 0xCFC6
-  -- variables among them, a pointer elsewhere, and a byte that may not be read
-  pub variables : ¬ IsListRoom (with_label 0 0x2001 plain_layout) packed 0x1FCD
+  -- the first variable or the last among them, a pointer elsewhere, and a byte that may not be read
+  pub first_variable : ¬ IsListRoom (with_label 0 0x2001 plain_layout) packed 0x1FCD
+  pub last_variable : ¬ IsListRoom (with_label 112 0x2001 plain_layout) packed 0x1FCD
   pub pointer : ¬ IsListRoom (record plain_layout { pointer = 255 }) packed 0x1FCD
   pub unread : ¬ IsListRoom (record plain_layout { may_read = λ place. not (place == 0x2007) }) packed 0x1FCD
   -- a period with bit 7, a slide of row 0, the pattern's last byte, the last frequency's, and no lists of calculated

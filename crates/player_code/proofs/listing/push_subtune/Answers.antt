@@ -7,5 +7,5 @@ use Rattle.player_code.proofs.Entrances.{init_is}
 pub returns : goal.returns
 returns c =
     subst (λ e. OnOk c.push_entrance.result (c.push_entrance.new.listing ≡ c.args.listing.now ++ entrance_lines e))
-    (init_is c.args.zero_page c.args.conditions c.args.start c.args.init.now None c.requires refl)
+    (init_is c.args.zero_page c.args.conditions c.args.start c.args.variables c.args.init.now None c.requires refl)
     c.push_entrance.ensures.lines
