@@ -1,11 +1,11 @@
 -- The lines of an image's code are those of its blocks, with the bytes around them that are counted.
-use Rattle.std.proofs.Common.{◌≡◌, ℕ, ◌+◌, Bool, List, ◌++◌, length, Some, None, refl, arith, append_assoc}
+use Rattle.std.proofs.Common.{◌≡◌, ℕ, ◌+◌, Bool, List, ◌++◌, Some, None, refl, arith, append_assoc}
 use Rattle.asm6502.proofs.Laws.{size_of-append}
 use Rattle.scopes.specs.Trees.{Tree}
 use Rattle.scope_lines.specs.Sizes.{size}
 use Rattle.scope_lines.specs.Lines.{block_lines}
 use Rattle.scope_calls.specs.Entrances.{Entrance, lead_lines, call_lines}
-use Rattle.player_memory.specs.declared.labels.TheConstants.{VARIABLES, LENT}
+use Rattle.player_memory.specs.declared.labels.TheConstants.{REST}
 use Rattle.player_code.specs.declared.labels.TheConstants.{INIT_CODE, PLAY_CODE}
 use Rattle.player_code.specs.CodeLines.{front_lines, middle_lines, lines_around, play_entrance, init_entrance}
 use Rattle.player_code.proofs.Laws.{front_size}
@@ -42,25 +42,25 @@ playing pointer holds filter voice = record {
 abbrev beginning : ℕ → (ℕ → Bool) → Tree → Entrance
 beginning pointer holds init = record {
   label = INIT_CODE;
-  stored = Some LENT;
+  stored = Some REST;
   first = init;
   voice = None;
   pointer = pointer;
   holds = holds;
 }
 
-stand : (variables : List ℕ) (pointer : ℕ) (holds : ℕ → Bool) (filter voice init : Tree) → length variables ≡ VARIABLES →
-    StandAround (lines_around variables (playing pointer holds filter voice) (beginning pointer holds init)) variables
-    pointer holds filter voice init
-stand variables pointer holds filter voice init all =
-    let front = front_size variables in
-    let led = size_of-append (front_lines variables) (lead_lines None) in record {
+stand : (places : ℕ → ℕ) (variables : List ℕ) (pointer : ℕ) (holds : ℕ → Bool) (filter voice init : Tree) →
+    StandAround (lines_around places variables (playing pointer holds filter voice) (beginning pointer holds init))
+    places variables pointer holds filter voice init
+stand places variables pointer holds filter voice init =
+    let front = front_size places variables in
+    let led = size_of-append (front_lines places variables) (lead_lines None) in record {
       are =
-          regrouped (front_lines variables) (lead_lines None) (block_lines PLAY_CODE pointer holds 1 filter)
+          regrouped (front_lines places variables) (lead_lines None) (block_lines PLAY_CODE pointer holds 1 filter)
           (call_lines PLAY_CODE (1 + size holds filter))
           (block_lines PLAY_CODE pointer holds (1 + size holds filter + 12) voice) lines_behind middle_lines
-          (lead_lines (Some LENT)) (block_lines INIT_CODE pointer holds 4 init);
-      front_takes = omega (arith, front, led, all);
+          (lead_lines (Some REST)) (block_lines INIT_CODE pointer holds 4 init);
+      front_takes = omega (arith, front, led);
       calls_take = refl;
       between_takes = refl;
       back_takes = refl;
@@ -68,4 +68,4 @@ stand variables pointer holds filter voice init all =
 
 pub lines_stand_around : LinesStandAround
 unfolding play_entrance init_entrance
-lines_stand_around variables pointer holds start all = stand variables pointer holds _ _ _ all
+lines_stand_around places variables pointer holds start = stand places variables pointer holds _ _ _

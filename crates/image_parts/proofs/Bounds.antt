@@ -1,6 +1,6 @@
 -- Bounds of the parts and of an image.
 use Rattle.std.proofs.Common.{◌≡◌, ℕ, ◌+◌, ◌-◌, ◌*◌, ◌<◌, ◌≤◌, min, nat_le, Bool, true}
-use Rattle.std.proofs.Common.{List, ◌++◌, replicate, refl, arith, inl, inr}
+use Rattle.std.proofs.Common.{List, ◌++◌, replicate, refl, arith, inl, inr, mul-le-mul_right}
 use Rattle.std.proofs.lemmas.Bool.{cases_lt, cases_Bool, agree_below_at, leb-true, ne_eqb}
 use Rattle.std.proofs.lemmas.List.Folds.{sum_by-replicate}
 use Rattle.std.proofs.lemmas.List.Sums.{sum_by-append}
@@ -12,8 +12,8 @@ use Rattle.scopes.specs.Trees.{Tree}
 use Rattle.scope_lines.specs.Readings.{holds_in}
 use Rattle.scope_lines.proofs.Laws.{sizes_are_bounded}
 use Rattle.scope_parts.specs.Parts.{parts, bytes_of}
-use Rattle.scope_parts.specs.PartLaws.{most_of, least_of}
-use Rattle.scope_parts.proofs.Laws.{parts_are_bounded, parts_are_there}
+use Rattle.scope_parts.specs.PartLaws.{most_of}
+use Rattle.scope_parts.proofs.Laws.{parts_are_bounded}
 use Rattle.player_memory.specs.declared.conditions.TheConstants.{NOTE_DEPENDENT}
 use Rattle.player_text.specs.Texts.{filter_tree, voice_tree, init_tree}
 use Rattle.player_text.specs.declared.texts.Start.{Start}
@@ -22,89 +22,77 @@ use Rattle.kept_lines.specs.Starts.{start_of}
 use Rattle.kept_lines.specs.Asked.{is_in, asked_by}
 use Rattle.kept_lines.specs.KeptLines.{kept_set}
 use Rattle.kept_lines.proofs.Laws.{no_more}
+use Rattle.variable_places.specs.Places.{variable_count}
+use Rattle.variable_places.proofs.Laws.{counts_are_few}
 use Rattle.image_parts.specs.CodeParts.{always, code_parts}
 use Rattle.image_parts.specs.Lengths.{slide_bytes, frequency_bytes}
-use Rattle.image_parts.specs.PartLaws.{RestIsBounded, CodeIsShort, PartsAreShort, CodeIsBounded, ImagesAreBounded}
+use Rattle.image_parts.specs.PartLaws.{CodeIsShort, PartsAreShort, CodeIsBounded, ImagesAreBounded}
 use Rattle.image_parts.proofs.Counts.{one_if}
 use Rattle.image_parts.proofs.Sums.{around, code_takes_its_parts, unkept_parts_have_none}
 
 -- ---- parts
 
-both : (part : ℕ) (one other : List ℕ) → bytes_of part (one ++ other) ≡ bytes_of part one + bytes_of part other
+pub both : (part : ℕ) (one other : List ℕ) → bytes_of part (one ++ other) ≡ bytes_of part one + bytes_of part other
 both part one other = sum_by-append (one_if part) one other
 
-plain_is : (part n : ℕ) → bytes_of part (replicate n always) ≡ n * one_if part always
+pub plain_is : (part n : ℕ) → bytes_of part (replicate n always) ≡ n * one_if part always
 plain_is part n = sum_by-replicate (one_if part) n always
 
--- the most that stands in three blocks and around them
+no_longer : (n m k : ℕ) → n ≤ m → n * k ≤ m * k
+no_longer n m k few = mul-le-mul_right k few
+
+-- the most that stands in three blocks and around them, where the variables are 113
 abbrev most_around : ℕ → Tree → Tree → Tree → ℕ
 most_around part filter voice init =
     138 * one_if part always + most_of part always filter + most_of part always voice + most_of part always init
 
-around_most : (holds : ℕ → Bool) (part : ℕ) (filter voice init : Tree) →
-    bytes_of part (around holds filter voice init) ≤ most_around part filter voice init
-around_most holds part filter voice init =
+around_most : (holds : ℕ → Bool) (part variables : ℕ) (filter voice init : Tree) → variables ≤ 113 →
+    bytes_of part (around holds variables filter voice init) ≤ most_around part filter voice init
+around_most holds part variables filter voice init few =
     let last = replicate 1 always in
     let after_voice = replicate 5 always ++ (parts holds always init ++ last) in
     let after_calls = parts holds always voice ++ after_voice in
     let after_filter = replicate 12 always ++ after_calls in
-    let a = both part (replicate 120 always) (parts holds always filter ++ after_filter) in
+    let a = both part (replicate (7 + variables) always) (parts holds always filter ++ after_filter) in
     let b = both part (parts holds always filter) after_filter in
     let c = both part (replicate 12 always) after_calls in
     let d = both part (parts holds always voice) after_voice in
     let e = both part (replicate 5 always) (parts holds always init ++ last) in
     let f = both part (parts holds always init) last in
-    let n = plain_is part 120 in
+    let n = plain_is part (7 + variables) in
+    let front = no_longer (7 + variables) 120 (one_if part always) (omega (arith, few)) in
     let m = plain_is part 12 in
     let l = plain_is part 5 in
     let k = plain_is part 1 in
     let x = parts_are_bounded holds part always filter in
     let y = parts_are_bounded holds part always voice in
     let z = parts_are_bounded holds part always init in
-    omega (arith, a, b, c, d, e, f, n, m, l, k, x, y, z)
-
--- and the least
-abbrev least_around : ℕ → Tree → Tree → Tree → ℕ
-least_around part filter voice init =
-    138 * one_if part always + least_of part always filter + least_of part always voice + least_of part always init
-
-around_least : (holds : ℕ → Bool) (part : ℕ) (filter voice init : Tree) →
-    least_around part filter voice init ≤ bytes_of part (around holds filter voice init)
-around_least holds part filter voice init =
-    let last = replicate 1 always in
-    let after_voice = replicate 5 always ++ (parts holds always init ++ last) in
-    let after_calls = parts holds always voice ++ after_voice in
-    let after_filter = replicate 12 always ++ after_calls in
-    let a = both part (replicate 120 always) (parts holds always filter ++ after_filter) in
-    let b = both part (parts holds always filter) after_filter in
-    let c = both part (replicate 12 always) after_calls in
-    let d = both part (parts holds always voice) after_voice in
-    let e = both part (replicate 5 always) (parts holds always init ++ last) in
-    let f = both part (parts holds always init) last in
-    let n = plain_is part 120 in
-    let m = plain_is part 12 in
-    let l = plain_is part 5 in
-    let k = plain_is part 1 in
-    let x = parts_are_there holds part always filter in
-    let y = parts_are_there holds part always voice in
-    let z = parts_are_there holds part always init in
-    omega (arith, a, b, c, d, e, f, n, m, l, k, x, y, z)
+    omega (arith, a, b, c, d, e, f, n, front, m, l, k, x, y, z)
 
 -- the numbers, computed
-few_of : (start : Start) (part : ℕ) → part < 55 →
-    most_around part filter_tree voice_tree (init_tree start) ≤ 320
-few_of start part low =
+few_of : (start : Start) (variables part : ℕ) → part < 55 →
+    most_around part filter_tree voice_tree (init_tree start variables) ≤ 320
+few_of start variables part low =
     leb-true _ 320
-    (agree_below_at (λ n. nat_le (most_around n filter_tree voice_tree (init_tree start)) 320) (λ n. true) 55 part
-    refl low)
+    (agree_below_at (λ n. nat_le (most_around n filter_tree voice_tree (init_tree start variables)) 320) (λ n. true)
+    55 part refl low)
 
-rest_of : (start : Start) → most_around always filter_tree voice_tree (init_tree start) ≤ 3070
-rest_of start = leb-true _ 3070 refl
+rest_of : (start : Start) (variables : ℕ) →
+    most_around always filter_tree voice_tree (init_tree start variables) ≤ 3070
+rest_of start variables = leb-true _ 3070 refl
+
+-- how many variables there are for what a song asks for and options, and what begins a subtune then
+abbrev variables_of : ℕ → Options → ℕ
+variables_of asked o = variable_count (holds_in (kept_set asked o))
+
+abbrev begins : ℕ → Options → Tree
+begins asked o = init_tree (start_of o) (variables_of asked o)
 
 code_most : (asked : ℕ) (o : Options) (part : ℕ) →
-    bytes_of part (code_parts asked o) ≤ most_around part filter_tree voice_tree (init_tree (start_of o))
+    bytes_of part (code_parts asked o) ≤ most_around part filter_tree voice_tree (begins asked o)
 code_most asked o part =
-    around_most (holds_in (kept_set asked o)) part filter_tree voice_tree (init_tree (start_of o))
+    let holds = holds_in (kept_set asked o) in
+    around_most holds part (variable_count holds) filter_tree voice_tree (begins asked o) (counts_are_few holds).1
 
 no_more_than : (n m : ℕ) → n ≤ m → m ≤ 320 → n + 0 ≤ 320
 no_more_than n m a b = omega (arith, a, b)
@@ -113,36 +101,17 @@ pub parts_are_short : PartsAreShort
 parts_are_short asked o = record {
   parts = λ part other. elim (cases_lt part 55) [
     | inl low ↦
-        rw (ne_eqb part always other) (no_more_than _ _ (code_most asked o part) (few_of (start_of o) part low))
+        rw (ne_eqb part always other)
+        (no_more_than _ _ (code_most asked o part) (few_of (start_of o) (variables_of asked o) part low))
     | inr high ↦ few _ (unkept_parts_have_none asked o part other (no_more asked o part high))
   ];
-  rest = with_zeros _ _ (code_most asked o always) (rest_of (start_of o));
+  rest = with_zeros _ _ (code_most asked o always) (rest_of (start_of o) (variables_of asked o));
 } where
   few : (n : ℕ) → n ≡ 0 → n ≤ 320
   few n e = omega (arith, e)
 
   with_zeros : (n m : ℕ) → n ≤ m → m ≤ 3070 → n + 2 ≤ 3072
   with_zeros n m a b = omega (arith, a, b)
-
--- of this part the blocks have 533 to 542 bytes, with what stands around them
-pub rest_is_bounded : RestIsBounded
-rest_is_bounded asked o = record {
-  from = at_least _ _ (least_is (start_of o))
-      (around_least (holds_in (kept_set asked o)) always filter_tree voice_tree (init_tree (start_of o)));
-  to = at_most _ _ (code_most asked o always) (most_is (start_of o));
-}
-  where
-    at_least : (n m : ℕ) → n ≡ 533 → n ≤ m → 535 ≤ m + 2
-    at_least n m a b = omega (arith, a, b)
-
-    at_most : (n m : ℕ) → n ≤ m → m ≡ 542 → n + 2 ≤ 544
-    at_most n m a b = omega (arith, a, b)
-
-    least_is : (start : Start) → least_around always filter_tree voice_tree (init_tree start) ≡ 533
-    least_is start = refl
-
-    most_is : (start : Start) → most_around always filter_tree voice_tree (init_tree start) ≡ 542
-    most_is start = refl
 
 -- ---- the code, with the slides and the frequencies
 
@@ -157,13 +126,14 @@ code_is_short asked o =
     let holds = holds_in (kept_set asked o) in
     let start = start_of o in
     let measured = are_measured in
-    bounds _ _ _ _ _ _ _ (code_takes_its_parts asked o) (sizes_are_bounded holds filter_tree)
-    (sizes_are_bounded holds voice_tree) (sizes_are_bounded holds (init_tree start)) measured.filter.takes_most
-    measured.voice.takes_most (measured.init start).takes_most
+    bounds _ _ _ _ _ _ _ _ (code_takes_its_parts asked o) (counts_are_few holds).1 (sizes_are_bounded holds filter_tree)
+    (sizes_are_bounded holds voice_tree) (sizes_are_bounded holds (begins asked o)) measured.filter.takes_most
+    measured.voice.takes_most (measured.init start (variable_count holds)).takes_most
   where
-    bounds : (all f v i mf mv mi : ℕ) → all ≡ 138 + f + v + i → f ≤ mf → v ≤ mv → i ≤ mi → mf ≡ 102 →
-        mv ≡ 1332 → mi ≡ 90 → all + 2 ≤ 1664
-    bounds all f v i mf mv mi e one two three four five six = omega (arith, e, one, two, three, four, five, six)
+    bounds : (all n f v i mf mv mi : ℕ) → all ≡ 25 + n + f + v + i → n ≤ 113 → f ≤ mf → v ≤ mv → i ≤ mi → mf ≡ 102 →
+        mv ≡ 1336 → mi ≡ 90 → all + 2 ≤ 1668
+    bounds all n f v i mf mv mi e few one two three four five six =
+        omega (arith, e, few, one, two, three, four, five, six)
 
 frequencies_most : (range : NumberRange) (size : ℕ) → range.first + range.count ≤ 129 → frequency_bytes range size ≤ 258
 frequencies_most range size few = most range.first range.count (2 + size) few
@@ -176,7 +146,7 @@ code_is_bounded asked features rows size range o few low =
     within _ _ _ (kept_parts features o) (slides_most asked rows few) (frequencies_most range size low)
     (code_is_short asked o)
   where
-    within : (slides frequencies code kept : ℕ) → slides ≤ 768 → frequencies ≤ 258 → code ≤ 1664 →
+    within : (slides frequencies code kept : ℕ) → slides ≤ 768 → frequencies ≤ 258 → code ≤ 1668 →
         slides + frequencies + code ≤ 3072 + 320 * kept
     within slides frequencies code kept a b c = omega (arith, a, b, c)
 

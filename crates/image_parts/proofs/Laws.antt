@@ -5,4 +5,6 @@ pub use Rattle.image_parts.proofs.Sums.{code_takes_its_parts, parts_add_up, all_
 -- two small songs, worked by hand
 pub use Rattle.image_parts.proofs.WorkedLengths.{notes_are_measured}
 -- the code, and an image, are within their bounds
-pub use Rattle.image_parts.proofs.Bounds.{rest_is_bounded, code_is_short, code_is_bounded, images_are_bounded}
+pub use Rattle.image_parts.proofs.Bounds.{code_is_short, code_is_bounded, images_are_bounded}
+-- and so is what each image has
+pub use Rattle.image_parts.proofs.Rest.{rest_is_exact, rest_is_bounded}

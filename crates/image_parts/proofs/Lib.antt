@@ -5,4 +5,7 @@ mod Counts
 mod Sums
 mod Around
 mod Bounds
+-- What each image has.
+mod Settled
+mod Rest
 mod WorkedLengths

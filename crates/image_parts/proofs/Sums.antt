@@ -15,14 +15,15 @@ use Rattle.player_text.specs.Texts.{filter_tree, voice_tree, init_tree}
 use Rattle.kept_lines.specs.Starts.{start_of}
 use Rattle.kept_lines.specs.KeptLines.{kept_set}
 use Rattle.kept_lines.proofs.Laws.{sets_are_exact, no_more}
+use Rattle.variable_places.specs.Places.{variable_count}
 use Rattle.image_parts.specs.CodeParts.{always, code_parts, part_length}
 use Rattle.image_parts.specs.PartLaws.{CodeTakesItsParts, PartsAddUp, UnkeptPartsHaveNone}
 use Rattle.image_parts.proofs.Counts.{below, below_same, IsPart, counted, none_of}
 
 -- the parts of three blocks with what stands around them
-abbrev pub around : (ℕ → Bool) → Tree → Tree → Tree → List ℕ
-around holds filter voice init =
-    replicate 120 always ++ (parts holds always filter
+abbrev pub around : (ℕ → Bool) → ℕ → Tree → Tree → Tree → List ℕ
+around holds variables filter voice init =
+    replicate (7 + variables) always ++ (parts holds always filter
     ++ (replicate 12 always ++ (parts holds always voice
     ++ (replicate 5 always ++ (parts holds always init ++ replicate 1 always)))))
 
@@ -36,14 +37,15 @@ block : (holds : ℕ → Bool) (tree : Tree) (rest : List ℕ) →
 block holds tree rest =
     length-append (parts holds always tree) rest ∙ ap (λ k. k + length rest) (parts_take_size holds always tree)
 
-around_long : (holds : ℕ → Bool) (filter voice init : Tree) →
-    length (around holds filter voice init) ≡ 138 + size holds filter + size holds voice + size holds init
-around_long holds filter voice init =
+around_long : (holds : ℕ → Bool) (variables : ℕ) (filter voice init : Tree) →
+    length (around holds variables filter voice init)
+    ≡ 25 + variables + size holds filter + size holds voice + size holds init
+around_long holds variables filter voice init =
     let last = replicate 1 always in
     let after_voice = replicate 5 always ++ (parts holds always init ++ last) in
     let after_calls = parts holds always voice ++ after_voice in
     let after_filter = replicate 12 always ++ after_calls in
-    let a = more 120 (parts holds always filter ++ after_filter) in
+    let a = more (7 + variables) (parts holds always filter ++ after_filter) in
     let b = block holds filter after_filter in
     let c = more 12 after_calls in
     let d = block holds voice after_voice in
@@ -54,22 +56,25 @@ around_long holds filter voice init =
 
 pub code_takes_its_parts : CodeTakesItsParts
 code_takes_its_parts asked o =
-    around_long (holds_in (kept_set asked o)) filter_tree voice_tree (init_tree (start_of o))
+    let holds = holds_in (kept_set asked o) in
+    around_long holds (variable_count holds) filter_tree voice_tree (init_tree (start_of o) (variable_count holds))
 
 -- ---- which
 
 abbrev IsKept : (ℕ → Bool) → ℕ → Type 0
 IsKept holds part = (part ≡ always) ⊎ (holds part ≡ true)
 
-all_around : (holds : ℕ → Bool) (filter voice init : Tree) → All (IsKept holds) (around holds filter voice init)
-all_around holds filter voice init =
+all_around : (holds : ℕ → Bool) (variables : ℕ) (filter voice init : Tree) →
+    All (IsKept holds) (around holds variables filter voice init)
+all_around holds variables filter voice init =
     let few : (n : ℕ) → All (IsKept holds) (replicate n always) =
     (λ n. All-replicate (IsKept holds) n always (inl refl)) in
     let last = replicate 1 always in
     let after_voice = replicate 5 always ++ (parts holds always init ++ last) in
     let after_calls = parts holds always voice ++ after_voice in
     let after_filter = replicate 12 always ++ after_calls in
-    All-append (IsKept holds) (replicate 120 always) (parts holds always filter ++ after_filter) (few 120)
+    All-append (IsKept holds) (replicate (7 + variables) always) (parts holds always filter ++ after_filter)
+    (few (7 + variables))
     (All-append (IsKept holds) (parts holds always filter) after_filter (parts_are_kept holds always filter)
     (All-append (IsKept holds) (replicate 12 always) after_calls (few 12)
     (All-append (IsKept holds) (parts holds always voice) after_voice (parts_are_kept holds always voice)
@@ -77,7 +82,9 @@ all_around holds filter voice init =
     (All-append (IsKept holds) (parts holds always init) last (parts_are_kept holds always init) (few 1))))))
 
 kept_is : (asked : ℕ) (o : Options) → All (IsKept (holds_in (kept_set asked o))) (code_parts asked o)
-kept_is asked o = all_around (holds_in (kept_set asked o)) filter_tree voice_tree (init_tree (start_of o))
+kept_is asked o =
+    let holds = holds_in (kept_set asked o) in
+    all_around holds (variable_count holds) filter_tree voice_tree (init_tree (start_of o) (variable_count holds))
 
 -- a condition that holds is one of 55
 few_hold : (asked : ℕ) (o : Options) (part : ℕ) → holds_in (kept_set asked o) part ≡ true → part < 55

@@ -10,6 +10,8 @@ use Rattle.packed_form.specs.declared.packed_songs.PackedSong.{PackedSong}
 use Rattle.packed_form.specs.Sizes.{packed_song_size}
 use Rattle.kept_lines.specs.Asked.{asked, asked_by}
 use Rattle.kept_lines.specs.KeptLines.{kept_set}
+use Rattle.variable_places.specs.Places.{voice_rows, shared_rows, asks, has_byte, voice_labels, other_labels}
+use Rattle.variable_places.specs.Places.{free_places, funk_place, variable_count}
 use Rattle.image_parts.specs.CodeParts.{code_length}
 use Rattle.image_parts.specs.Lengths.{slide_bytes, frequency_bytes, image_length}
 use Rattle.image_parts.specs.WorkedLengths.{IsPackedSilence, IsPlayedNote}
@@ -20,7 +22,7 @@ pub frequencies_are_measured : FrequenciesAreMeasured
 frequencies_are_measured = record { long = refl; just_long = refl; short = refl; all = refl; none = refl }
 
 pub parts_are_measured : PartsAreMeasured
-unfolding kept_set
+unfolding kept_set voice_rows shared_rows asks has_byte voice_labels other_labels free_places funk_place variable_count
 parts_are_measured = record {
   features = refl;
   options = refl;
@@ -29,6 +31,8 @@ parts_are_measured = record {
   common_facts = refl;
   no_more = refl;
   rest = refl;
+  least_rest = refl;
+  most_rest = refl;
   whole = refl;
   no_fact = refl;
   no_feature = refl;
@@ -83,20 +87,20 @@ note_asks packed is =
     ∙ note_asked
 
 -- how long their code is
-silence_with_none : code_length (2 ^ 37) no_options ≡ 550
-unfolding kept_set
+silence_with_none : code_length (2 ^ 37) no_options ≡ 489
+unfolding kept_set voice_rows shared_rows asks has_byte voice_labels other_labels free_places funk_place variable_count
 silence_with_none = refl
 
-silence_with_all : code_length (2 ^ 37) (all_left_out 4) ≡ 602
-unfolding kept_set
+silence_with_all : code_length (2 ^ 37) (all_left_out 4) ≡ 545
+unfolding kept_set voice_rows shared_rows asks has_byte voice_labels other_labels free_places funk_place variable_count
 silence_with_all = refl
 
-note_with_none : code_length (0x402000 + 2 ^ 41 + 2 ^ 44) no_options ≡ 702
-unfolding kept_set
+note_with_none : code_length (0x402000 + 2 ^ 41 + 2 ^ 44) no_options ≡ 659
+unfolding kept_set voice_rows shared_rows asks has_byte voice_labels other_labels free_places funk_place variable_count
 note_with_none = refl
 
-note_with_all : code_length (0x402000 + 2 ^ 41 + 2 ^ 44) (all_left_out 4) ≡ 754
-unfolding kept_set
+note_with_all : code_length (0x402000 + 2 ^ 41 + 2 ^ 44) (all_left_out 4) ≡ 715
+unfolding kept_set voice_rows shared_rows asks has_byte voice_labels other_labels free_places funk_place variable_count
 note_with_all = refl
 
 -- an image has these bytes, those of the packed song, those of its slides, and those of its frequencies
@@ -122,21 +126,21 @@ note_lists packed is = ap (λ (range : NumberRange). frequency_bytes range 42) i
 pub silences_are_measured : SilencesAreMeasured
 silences_are_measured packed is = record {
   with_none =
-      all_of packed no_options (2 ^ 37) 28 0 0 550 (silence_asks packed is) (silence_size packed is) refl
+      all_of packed no_options (2 ^ 37) 28 0 0 489 (silence_asks packed is) (silence_size packed is) refl
       (silence_lists packed is) silence_with_none;
   with_all =
-      all_of packed (all_left_out 4) (2 ^ 37) 28 0 0 602 (silence_asks packed is) (silence_size packed is) refl
+      all_of packed (all_left_out 4) (2 ^ 37) 28 0 0 545 (silence_asks packed is) (silence_size packed is) refl
       (silence_lists packed is) silence_with_all;
 }
 
 pub notes_are_measured : NotesAreMeasured
 notes_are_measured packed is = record {
   with_none =
-      all_of packed no_options (0x402000 + 2 ^ 41 + 2 ^ 44) 42 0 10 702 (note_asks packed is) (note_size packed is)
+      all_of packed no_options (0x402000 + 2 ^ 41 + 2 ^ 44) 42 0 10 659 (note_asks packed is) (note_size packed is)
       refl
       (note_lists packed is) note_with_none;
   with_all =
-      all_of packed (all_left_out 4) (0x402000 + 2 ^ 41 + 2 ^ 44) 42 0 10 754 (note_asks packed is) (note_size packed is)
-      refl
+      all_of packed (all_left_out 4) (0x402000 + 2 ^ 41 + 2 ^ 44) 42 0 10 715 (note_asks packed is)
+      (note_size packed is) refl
       (note_lists packed is) note_with_all;
 }

@@ -11,7 +11,7 @@ use Rattle.scope_lines.specs.Instructions.{code}
 use Rattle.scope_lines.specs.Sizes.{size}
 use Rattle.scope_lines.specs.Lines.{block_lines}
 use Rattle.scope_calls.specs.Entrances.{lead_lines, call_lines}
-use Rattle.player_memory.specs.declared.labels.TheConstants.{VARIABLES, LENT}
+use Rattle.player_memory.specs.declared.labels.TheConstants.{REST}
 use Rattle.player_text.specs.declared.texts.Start.{Start}
 use Rattle.player_text.specs.Texts.{filter_tree, voice_tree, init_tree}
 use Rattle.player_code.specs.declared.labels.TheConstants.{INIT_CODE, PLAY_CODE}
@@ -19,32 +19,32 @@ use Rattle.player_code.specs.CodeLines.{front_lines, middle_lines, code_lines}
 use Rattle.image_parts.specs.CodeParts.{front_bytes, call_bytes, between_bytes, back_bytes}
 
 -- in front of the filter's lines the two jumps, the variables and `CLD`
-abbrev pub lines_in_front : List ℕ → List Line
-lines_in_front variables = front_lines variables ++ lead_lines None
+abbrev pub lines_in_front : (ℕ → ℕ) → List ℕ → List Line
+lines_in_front places variables = front_lines places variables ++ lead_lines None
 
 -- between the voices' lines and those that begin a subtune `RTS`, the label, `CLD` and `STA`; and behind all `RTS`
 abbrev pub lines_between : List Line
-lines_between = code Rts Implied Nothing ∷ (middle_lines ++ lead_lines (Some LENT))
+lines_between = code Rts Implied Nothing ∷ (middle_lines ++ lead_lines (Some REST))
 
 abbrev pub lines_behind : List Line
 lines_behind = code Rts Implied Nothing ∷ []
 
 -- the lines of three blocks, with these around them and, between the filter and the voices, those that call the voices
-pub record StandAround (lines : List Line) (variables : List ℕ) (pointer : ℕ) (holds : ℕ → Bool)
+pub record StandAround (lines : List Line) (places : ℕ → ℕ) (variables : List ℕ) (pointer : ℕ) (holds : ℕ → Bool)
     (filter voice init : Tree) : Type 0 where
   pub are : lines
-      ≡ lines_in_front variables ++ (block_lines PLAY_CODE pointer holds 1 filter
+      ≡ lines_in_front places variables ++ (block_lines PLAY_CODE pointer holds 1 filter
       ++ (call_lines PLAY_CODE (1 + size holds filter)
       ++ (block_lines PLAY_CODE pointer holds (1 + size holds filter + call_bytes) voice
       ++ (lines_between ++ (block_lines INIT_CODE pointer holds 4 init ++ lines_behind)))))
-  pub front_takes : size_of (lines_in_front variables) ≡ front_bytes
+  pub front_takes : size_of (lines_in_front places variables) ≡ front_bytes (length variables)
   pub calls_take : size_of (call_lines PLAY_CODE (1 + size holds filter)) ≡ call_bytes
   pub between_takes : size_of lines_between ≡ between_bytes
   pub back_takes : size_of lines_behind ≡ back_bytes
 
--- so it is with the code of an image, whatever its variables begin with
+-- so it is with the code of an image, wherever its variables stand, and whatever they begin with
 abbrev pub LinesStandAround : Type 0
 LinesStandAround =
-    (variables : List ℕ) (pointer : ℕ) (holds : ℕ → Bool) (start : Start) → length variables ≡ VARIABLES →
-    StandAround (code_lines variables pointer holds start) variables pointer holds filter_tree voice_tree
-    (init_tree start)
+    (places : ℕ → ℕ) (variables : List ℕ) (pointer : ℕ) (holds : ℕ → Bool) (start : Start) →
+    StandAround (code_lines places variables pointer holds start) places variables pointer holds filter_tree
+    voice_tree (init_tree start (length variables))

@@ -8,16 +8,17 @@ use Rattle.scope_parts.specs.Parts.{parts, bytes_of}
 use Rattle.player_text.specs.Texts.{filter_tree, voice_tree, init_tree}
 use Rattle.kept_lines.specs.Starts.{start_of}
 use Rattle.kept_lines.specs.KeptLines.{kept_set}
+use Rattle.variable_places.specs.Places.{variable_count}
 
 -- the part that each image has
 abbrev pub always : ℕ
 always = 255
 
--- The bytes in front of the filter's block: two jumps of 3 bytes, 113 variables and `CLD`; behind it those of the calls of
--- the voices; behind the voices' block `RTS`, and `CLD` and `STA` of the beginning of a subtune; and behind its block
--- `RTS`. `CodeLines` has these lines.
-abbrev pub front_bytes : ℕ
-front_bytes = 120
+-- The bytes in front of the filter's block, with so many variables: two jumps of 3 bytes, the variables and `CLD`;
+-- behind it those of the calls of the voices; behind the voices' block `RTS`, and `CLD` and `STA` of the beginning of a
+-- subtune; and behind its block `RTS`. `CodeLines` has these lines.
+abbrev pub front_bytes : ℕ → ℕ
+front_bytes variables = 7 + variables
 
 abbrev pub call_bytes : ℕ
 call_bytes = 12
@@ -31,13 +32,15 @@ back_bytes = 1
 -- the parts of three blocks and of what stands around them
 abbrev pub parts_around : (ℕ → Bool) → Tree → List ℕ
 parts_around holds init =
-    replicate front_bytes always ++ (parts holds always filter_tree
+    replicate (front_bytes (variable_count holds)) always ++ (parts holds always filter_tree
     ++ (replicate call_bytes always ++ (parts holds always voice_tree
     ++ (replicate between_bytes always ++ (parts holds always init ++ replicate back_bytes always)))))
 
 -- the part of each byte of the code, for what a song asks for and options
 abbrev pub code_parts : ℕ → Options → List ℕ
-code_parts asked o = parts_around (holds_in (kept_set asked o)) (init_tree (start_of o))
+code_parts asked o =
+    parts_around (holds_in (kept_set asked o))
+    (init_tree (start_of o) (variable_count (holds_in (kept_set asked o))))
 
 -- the two zeros that each image has among its lists, for row 0 of the sides of the speed table
 abbrev pub zero_bytes : ℕ

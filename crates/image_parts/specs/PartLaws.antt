@@ -1,5 +1,5 @@
 -- What holds of the parts of an image. This is the project's own player.
-use Rattle.std.specs.Prelude.{◌≡◌, ◌≢◌, ℕ, ◌+◌, ◌≤◌, false, length, sum_by}
+use Rattle.std.specs.Prelude.{◌≡◌, ◌≢◌, ℕ, ◌+◌, ◌≤◌, Bool, false, if◌then◌else◌, length, sum_by}
 use Rattle.std.specs.List.{range_with_len}
 use Rattle.play_model.specs.declared.options.Options.{Options}
 use Rattle.asked_numbers.specs.declared.range.NumberRange.{NumberRange}
@@ -7,8 +7,10 @@ use Rattle.packed_form.specs.declared.packed_songs.PackedSong.{PackedSong}
 use Rattle.packed_form.specs.Sizes.{packed_song_size}
 use Rattle.packed_form.specs.CodeBounds.{code_bound}
 use Rattle.scope_lines.specs.Readings.{holds_in}
+use Rattle.player_memory.specs.declared.conditions.TheConstants.{PULSE_TABLE, SET_VOLUME, EFFECTS}
 use Rattle.kept_lines.specs.Starts.{start_of}
 use Rattle.kept_lines.specs.KeptLines.{keeps, kept_set}
+use Rattle.variable_places.specs.Places.{variable_count}
 use Rattle.player_code.specs.CodeLaws.{code_takes}
 use Rattle.image_parts.specs.CodeParts.{always, code_parts, part_length, code_length}
 use Rattle.image_parts.specs.Lengths.{slide_bytes, frequency_bytes, image_length}
@@ -17,7 +19,8 @@ use Rattle.image_parts.specs.Lengths.{slide_bytes, frequency_bytes, image_length
 abbrev pub CodeTakesItsParts : Type 0
 CodeTakesItsParts =
     (asked : ℕ) (o : Options) →
-    length (code_parts asked o) ≡ code_takes (holds_in (kept_set asked o)) (start_of o)
+    length (code_parts asked o)
+    ≡ code_takes (holds_in (kept_set asked o)) (start_of o) (variable_count (holds_in (kept_set asked o)))
 
 -- the code is the part that each image has and the 55 others
 abbrev pub PartsAddUp : Type 0
@@ -39,17 +42,30 @@ pub record AreShort (asked : ℕ) (o : Options) : Type 0 where
 abbrev pub PartsAreShort : Type 0
 PartsAreShort = (asked : ℕ) (o : Options) → AreShort asked o
 
--- the part that each image has is nearly as long in each: it has what stands in the place of lines that aren't kept
+-- what stands in the place of lines that aren't kept: two bytes where no pulse program runs, two where no command sets
+-- the volume, and three where no effect runs
+abbrev pub in_place : (ℕ → Bool) → ℕ
+in_place holds =
+    (if holds PULSE_TABLE then 0 else 2) + (if holds SET_VOLUME then 0 else 2) + (if holds EFFECTS then 0 else 3)
+
+-- the part that each image has is these, the variables, and 414 bytes with the zeros
+abbrev pub RestIsExact : Type 0
+RestIsExact =
+    (asked : ℕ) (o : Options) →
+    part_length asked o always
+    ≡ 414 + variable_count (holds_in (kept_set asked o)) + in_place (holds_in (kept_set asked o))
+
+-- so it has no fewer than where the volume is set and nothing else is asked for, and no more than where all is but this
 pub record RestIsWithin (asked : ℕ) (o : Options) : Type 0 where
-  pub from : 535 ≤ part_length asked o always
-  pub to : part_length asked o always ≤ 544
+  pub from : 481 ≤ part_length asked o always
+  pub to : part_length asked o always ≤ 528
 
 abbrev pub RestIsBounded : Type 0
 RestIsBounded = (asked : ℕ) (o : Options) → RestIsWithin asked o
 
 -- the code with the zeros takes at most what it does where all parts are kept
 abbrev pub CodeIsShort : Type 0
-CodeIsShort = (asked : ℕ) (o : Options) → code_length asked o ≤ 1664
+CodeIsShort = (asked : ℕ) (o : Options) → code_length asked o ≤ 1668
 
 -- an image is within the bound of a packed song and its player: the code with the slides, of 255 rows at most, and with
 -- the frequencies, up to that of number 128 at most, is within the player's, whichever features that is for

@@ -11,7 +11,7 @@ use Rattle.packed_form.specs.WorkedUnpacked.{IsPackedNote}
 use Rattle.player_memory.specs.declared.conditions.TheConstants.{VIBRATO, WAVE_TABLE, SKIP_EFFECTS, SWINGS}
 use Rattle.player_memory.specs.declared.conditions.TheConstants.{FILTER_TABLE, SET_CUTOFF, FILTER_USED, EFFECTS}
 use Rattle.player_memory.specs.declared.conditions.TheConstants.{ROW_SLIDE, ROW_ONCE, LEGATO, NO_HARD_RESTART}
-use Rattle.player_memory.specs.declared.conditions.TheConstants.{WAVE_DELAY}
+use Rattle.player_memory.specs.declared.conditions.TheConstants.{WAVE_DELAY, SET_VOLUME}
 use Rattle.player_memory.specs.declared.conditions.TheConstants.{ROW_COMMAND, SPECIAL_ROW, HELD_NOTE, SET_TEMPO}
 use Rattle.player_memory.specs.declared.conditions.TheConstants.{VOICE_TEMPO, COMMON_TEMPO, FUNK_TURNS, FUNK_CHOICE}
 use Rattle.image_parts.specs.CodeParts.{always, part_length, code_length}
@@ -50,36 +50,38 @@ pub record PartsAreMeasured : Type 0 where
   pub features : map all_parts (range_with_len 0 24)
       ≡ 16 ∷ 21 ∷ 4 ∷ 4 ∷ 52 ∷ 4 ∷ 0 ∷ 23 ∷ 79 ∷ 14 ∷ 14 ∷ 14 ∷ 7 ∷ 90 ∷ 24 ∷ 76 ∷ 24 ∷ 28 ∷ 14 ∷ 30 ∷ 21 ∷ 4 ∷ 45
       ∷ 80 ∷ []
-  pub options : map all_parts (range_with_len 24 4) ≡ 13 ∷ 6 ∷ 10 ∷ 36 ∷ []
+  pub options : map all_parts (range_with_len 24 4) ≡ 13 ∷ 6 ∷ 10 ∷ 40 ∷ []
   pub common : map all_parts (range_with_len 28 6) ≡ 43 ∷ 10 ∷ 10 ∷ 17 ∷ 17 ∷ 3 ∷ []
   pub facts : map all_parts (range_with_len 34 16)
       ≡ 19 ∷ 9 ∷ 11 ∷ 6 ∷ 2 ∷ 2 ∷ 27 ∷ 12 ∷ 6 ∷ 6 ∷ 13 ∷ 13 ∷ 18 ∷ 15 ∷ 17 ∷ 36 ∷ []
-  pub common_facts : map all_parts (range_with_len 50 5) ≡ 18 ∷ 4 ∷ 7 ∷ 26 ∷ 9 ∷ []
+  pub common_facts : map all_parts (range_with_len 50 5) ≡ 24 ∷ 4 ∷ 7 ∷ 28 ∷ 9 ∷ []
   pub no_more : all_parts 55 ≡ 0
-  pub rest : all_parts always ≡ 535
-  pub whole : code_length (every_feature + every_fact) (all_left_out 4) ≡ 1664
+  pub rest : all_parts always ≡ 527
+  pub least_rest : part_length (2 ^ SET_VOLUME) no_options always ≡ 481
+  pub most_rest : part_length (every_feature - 2 ^ SET_VOLUME + every_fact) (all_left_out 4) always ≡ 528
+  pub whole : code_length (every_feature + every_fact) (all_left_out 4) ≡ 1668
   -- the features without the facts, and these without the features
-  pub no_fact : code_length every_feature (all_left_out 4) ≡ 1332
-  pub no_feature : code_length every_fact no_options ≡ 745
+  pub no_fact : code_length every_feature (all_left_out 4) ≡ 1321
+  pub no_feature : code_length every_fact no_options ≡ 720
   -- none is kept, and nothing else can be asked for
-  pub bare : code_length 0 no_options ≡ 544
-  pub bare_rest : part_length 0 no_options always ≡ 544
-  pub ntsc : code_length 0 (record no_options { system = Ntsc }) ≡ 544
-  pub no_others : code_length (2 ^ 24 + 2 ^ 28 + 2 ^ 33 + 2 ^ 50 + 2 ^ 53 + 2 ^ 55) no_options ≡ 544
-  -- one is kept alone; commands that are done once take nothing where no row has one, nor their tempos, nor delays
-  -- without a wave program
+  pub bare : code_length 0 no_options ≡ 483
+  pub bare_rest : part_length 0 no_options always ≡ 483
+  pub ntsc : code_length 0 (record no_options { system = Ntsc }) ≡ 483
+  pub no_others : code_length (2 ^ 24 + 2 ^ 28 + 2 ^ 33 + 2 ^ 50 + 2 ^ 53 + 2 ^ 55) no_options ≡ 483
+  -- one is kept alone; commands that are done once take nothing where no row has one, nor their tempos, and delays
+  -- little without a wave program
   pub alone : map alone_part (range_with_len 0 24)
       ≡ 16 ∷ 21 ∷ 4 ∷ 4 ∷ 52 ∷ 4 ∷ 0 ∷ 23 ∷ 3 ∷ 0 ∷ 0 ∷ 0 ∷ 0 ∷ 90 ∷ 0 ∷ 76 ∷ 0 ∷ 0 ∷ 0 ∷ 8 ∷ 21 ∷ 0 ∷ 45 ∷ 69 ∷ []
   pub alone_facts : map alone_part (range_with_len 34 16)
-      ≡ 19 ∷ 9 ∷ 11 ∷ 6 ∷ 2 ∷ 2 ∷ 3 ∷ 12 ∷ 0 ∷ 6 ∷ 13 ∷ 13 ∷ 0 ∷ 0 ∷ 0 ∷ 0 ∷ []
+      ≡ 19 ∷ 9 ∷ 11 ∷ 6 ∷ 2 ∷ 2 ∷ 5 ∷ 12 ∷ 0 ∷ 6 ∷ 13 ∷ 13 ∷ 0 ∷ 0 ∷ 0 ∷ 0 ∷ []
   pub swings : part_of VIBRATO SWINGS ≡ 34
-  pub slide_common : part_of ROW_SLIDE ROW_COMMAND ≡ 18
-  pub once_common : part_of ROW_ONCE ROW_COMMAND ≡ 18
+  pub slide_common : part_of ROW_SLIDE ROW_COMMAND ≡ 24
+  pub once_common : part_of ROW_ONCE ROW_COMMAND ≡ 24
   pub legato_common : part_of LEGATO HELD_NOTE ≡ 7
   pub soft_common : part_of NO_HARD_RESTART HELD_NOTE ≡ 7
   pub filters : map (λ condition. part_of condition FILTER_USED) (FILTER_TABLE ∷ SET_CUTOFF ∷ []) ≡ 9 ∷ 9 ∷ []
-  -- where no command runs at a tick, none is left out there
-  pub runs : map (λ condition. part_of condition EFFECTS) (VIBRATO ∷ ROW_SLIDE ∷ []) ≡ 26 ∷ 26 ∷ []
+  -- a command that runs takes less where rows have commands; and where none runs at a tick, none is left out there
+  pub runs : map (λ condition. part_of condition EFFECTS) (VIBRATO ∷ ROW_SLIDE ∷ []) ≡ 30 ∷ 28 ∷ []
   pub effects : part_length 0 (record no_options { skip_effects = true }) SKIP_EFFECTS ≡ 0
   pub slide_effects : part_length (2 ^ ROW_SLIDE) (record no_options { skip_effects = true }) SKIP_EFFECTS ≡ 8
   -- with rows whose commands are done once, and with a wave program
@@ -89,7 +91,7 @@ pub record PartsAreMeasured : Type 0 where
   pub choice : part_of_both ROW_ONCE FUNK_CHOICE FUNK_CHOICE ≡ 36
   pub tempos : map with_tempos (VOICE_TEMPO ∷ COMMON_TEMPO ∷ []) ≡ 18 ∷ 15 ∷ []
   pub no_tempos : part_of_both ROW_ONCE COMMON_TEMPO COMMON_TEMPO ≡ 0
-  pub delay : part_of_both WAVE_TABLE WAVE_DELAY WAVE_DELAY ≡ 22
+  pub delay : part_of_both WAVE_TABLE WAVE_DELAY WAVE_DELAY ≡ 24
   pub delay_common : part_of_both WAVE_TABLE WAVE_DELAY SPECIAL_ROW ≡ 4
   -- where no speed is calculated there are no slides, and else three lists with row 0
   pub no_slides : slide_bytes (every_feature - 2 ^ 8 + every_fact) 5 ≡ 0
@@ -125,20 +127,20 @@ pub record IsPackedSilence (packed : PackedSong) : Type 0 where
   pub facts : packed.facts ≡ record no_facts { first_mask = true }
   pub numbers : packed.numbers ≡ record { first = 0; count = 0 }
 
--- 28 bytes of the packed song, 544 of each player, and 6 for the first waveform; 6, 10 and 36 more where all four
+-- 28 bytes of the packed song, 483 of each player, and 6 for the first waveform; 6, 10 and 40 more where all four
 -- options are on, since no command runs that the first would leave out
 pub record SilenceIsMeasured (packed : PackedSong) : Type 0 where
-  pub with_none : image_length packed no_options ≡ 578
-  pub with_all : image_length packed (all_left_out 4) ≡ 630
+  pub with_none : image_length packed no_options ≡ 517
+  pub with_all : image_length packed (all_left_out 4) ≡ 573
 
 abbrev pub SilencesAreMeasured : Type 0
 SilencesAreMeasured = (packed : PackedSong) → IsPackedSilence packed → SilenceIsMeasured packed
 
 -- ---- a note
 
--- a song of one note, which has a wave and a pulse program, and of a keyoff: 42 bytes, the 544 but the 2 that stand for
--- a width, and 45, 90, 12 and 13 of the parts for these and for the instrument's pulse program; and 10 of the frequencies
--- 44 to 48, with 44 bytes in front of them
+-- a song of one note, which has a wave and a pulse program, and of a keyoff: 42 bytes, the 483 but the 2 that stand for
+-- a width, 18 more of variables, and 45, 90, 12 and 13 of the parts for these and for the instrument's pulse program;
+-- and 10 of the frequencies 44 to 48, with 44 bytes in front of them
 pub record IsPlayedNote (packed : PackedSong) : Type 0 where
   pub lists : IsPackedNote packed
   pub features : packed.features.0 ≡ 0x402000
@@ -146,8 +148,8 @@ pub record IsPlayedNote (packed : PackedSong) : Type 0 where
   pub numbers : packed.numbers ≡ record { first = 48; count = 1 }
 
 pub record NoteIsMeasured (packed : PackedSong) : Type 0 where
-  pub with_none : image_length packed no_options ≡ 754
-  pub with_all : image_length packed (all_left_out 4) ≡ 806
+  pub with_none : image_length packed no_options ≡ 711
+  pub with_all : image_length packed (all_left_out 4) ≡ 767
 
 abbrev pub NotesAreMeasured : Type 0
 NotesAreMeasured = (packed : PackedSong) → IsPlayedNote packed → NoteIsMeasured packed

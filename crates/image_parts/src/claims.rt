@@ -2,7 +2,8 @@
 
 ghost use Rattle.image_parts.specs.CodeLines.{LinesStandAround};
 ghost use Rattle.image_parts.specs.PartLaws.{CodeTakesItsParts, PartsAddUp, PartsAreShort, UnkeptPartsHaveNone};
-ghost use Rattle.image_parts.specs.PartLaws.{RestIsBounded, CodeIsShort, CodeIsBounded, ImagesAreBounded};
+ghost use Rattle.image_parts.specs.PartLaws.{RestIsExact, RestIsBounded, CodeIsShort, CodeIsBounded};
+ghost use Rattle.image_parts.specs.PartLaws.{ImagesAreBounded};
 ghost use Rattle.image_parts.specs.WorkedLengths.{PartsAreMeasured, FrequenciesAreMeasured, SilencesAreMeasured};
 ghost use Rattle.image_parts.specs.WorkedLengths.{NotesAreMeasured};
 
@@ -15,11 +16,12 @@ pub fn parts_add_up()
 {}
 
 /// A part that isn't kept has no bytes, no other one has more than 320, and the one that every image has no more than
-/// 3,072: it has 535 to 544. The code has at most 1,664 with the zeros; and an image is within
-/// the bound of its packed song and a player.
+/// 3,072: it has 414, those of the variables, and what stands in the place of lines that aren't kept, which makes 481
+/// to 528. The code has at most 1,668 with the zeros; and an image is within the bound of its packed song and a player.
 pub fn parts_are_bounded()
     ensures none { UnkeptPartsHaveNone }
     ensures short { PartsAreShort }
+    ensures exact { RestIsExact }
     ensures rest { RestIsBounded }
     ensures whole { CodeIsShort }
     ensures code { CodeIsBounded }

@@ -4,6 +4,7 @@ ghost use Rattle.std.specs.Prelude.{◌≡◌, ◌++◌, ◌≤◌, true, length
 ghost use Rattle.scopes.specs.Trees.{tree_of};
 ghost use Rattle.scope_lines.specs.Readings.{holds_in, is_block};
 ghost use Rattle.player_text.specs.Texts.{filter_lines, voice_lines};
+ghost use Rattle.variable_places.specs.Places.{variable_count};
 ghost use Rattle.image_parts.specs.CodeParts.{always, parts_around, code_parts};
 
 use base::{ByteList, NoMemory};
@@ -13,12 +14,13 @@ use player_text::texts;
 use scope_lines::{Conditions, Line};
 use scope_parts::push_parts;
 use std::alloc::Global;
+use variable_places::variable_places;
 
 /// The part that every image has.
 pub const ALWAYS: u8 = 255;
 
-/// The bytes of the code in front of its blocks: two jumps, the variables and `CLD`.
-const FRONT: u16 = 120;
+/// The bytes of the code in front of its blocks, but for the variables: two jumps and `CLD`.
+const FRONT: u16 = 7;
 
 /// Those of the calls of the voices, behind the filter.
 const CALLS: u16 = 12;
@@ -39,14 +41,16 @@ fn push_always(list: &mut ByteList, count: u16) -> Result<(), NoMemory>
     Ok(())
 }
 
-/// The parts of the code whose blocks have these lines.
+/// The parts of the code that has so many variables, and whose blocks have these lines.
 fn parts_around(
     alloc: Global,
     conditions: Conditions,
+    variables: u8,
     filter: &[Line],
     voice: &[Line],
     init: &[Line],
 ) -> Result<ByteList, NoMemory>
+    requires variables { variables ≡ variable_count (holds_in conditions.0) }
     requires filter { filter.now ≡ filter_lines }
     requires voice { voice.now ≡ voice_lines }
     requires init { is_block init.now ≡ true }
@@ -54,7 +58,7 @@ fn parts_around(
     ensures { IfOk result (λ list. list ≡ parts_around (holds_in conditions.0) (tree_of init.now)) }
 {
     let mut list = ByteList::new(alloc);
-    push_always(&mut list, FRONT)?;
+    push_always(&mut list, FRONT + u16::from(variables))?;
     push_parts(&mut list, filter, conditions, ALWAYS)?;
     push_always(&mut list, CALLS)?;
     push_parts(&mut list, voice, conditions, ALWAYS)?;
@@ -75,10 +79,13 @@ pub fn code_parts(alloc: Global, asked: Conditions, options: &Options) -> Result
 {
     let filter = texts::filter(alloc)?;
     let voice = texts::voice(alloc)?;
-    let init = texts::init(alloc, start_of(options))?;
+    let conditions = conditions(asked, *options);
+    let variables = variable_places(conditions).count;
+    let init = texts::init(alloc, start_of(options), variables)?;
     parts_around(
         alloc,
-        conditions(asked, *options),
+        conditions,
+        variables,
         filter.as_slice(),
         voice.as_slice(),
         init.as_slice(),

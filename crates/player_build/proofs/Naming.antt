@@ -8,7 +8,10 @@ use Rattle.std.proofs.lemmas.List.{length-append, length-replicate, get_or-repli
 use Rattle.std.proofs.lemmas.List.Elements.{All-nil, All-cons, Contains-append_left, Contains-append_right}
 use Rattle.std.proofs.lemmas.List.Elements.{Contains-append_cases}
 use Rattle.play_model.specs.declared.options.Options.{Options}
-use Rattle.image_parts.specs.CodeParts.{always, code_parts, zero_bytes}
+use Rattle.scope_lines.specs.Readings.{holds_in}
+use Rattle.kept_lines.specs.KeptLines.{kept_set}
+use Rattle.variable_places.specs.Places.{variable_count}
+use Rattle.image_parts.specs.CodeParts.{always, front_bytes, code_parts, zero_bytes}
 use Rattle.player_build.specs.declared.image.PartSpan.{PartSpan}
 use Rattle.player_build.specs.Joined.{Follow, zero_span}
 use Rattle.player_build.specs.Spans.{zero_length, parts_of_spans, IsNamed, IsNamedAs, spans_size}
@@ -254,13 +257,16 @@ begins_with spans to n byte part rest follow parts few =
     plain : (n : ℕ) → 0 + n ≡ n
     plain n = omega arith
 
--- 120 bytes of the part that is always kept stand in front of the blocks
+-- the entries, the variables and one byte more of the part that is always kept stand in front of the blocks
 pub front_named : (spans : List PartSpan) (asked : ℕ) (o : Options) (to : ℕ) → Follow 0 spans to →
-    parts_of_spans spans ≡ code_parts asked o → (byte : ℕ) → byte < 119 → IsNamedAs spans byte always
-front_named spans asked o to follow parts byte few = begins_with spans to 120 byte always _ follow parts (less byte few)
+    parts_of_spans spans ≡ code_parts asked o → (byte : ℕ) →
+    byte < 6 + variable_count (holds_in (kept_set asked o)) → IsNamedAs spans byte always
+front_named spans asked o to follow parts byte few =
+    begins_with spans to (front_bytes (variable_count (holds_in (kept_set asked o)))) byte always _ follow parts
+    (less byte (variable_count (holds_in (kept_set asked o))) few)
   where
-    less : (byte : ℕ) → byte < 119 → byte < 120
-    less byte h = omega (arith, h)
+    less : (byte count : ℕ) → byte < 6 + count → byte < front_bytes count
+    less byte count h = omega (arith, h)
 
 -- a zero at a place
 zero_named : (start : ℕ) (back : List PartSpan) → IsNamedAs (zero_span start ∷ back) start always

@@ -6,6 +6,8 @@ use Rattle.packed_form.specs.declared.packed_songs.PackedSong.{PackedSong}
 use Rattle.song_facts.specs.Facts.{no_facts}
 use Rattle.kept_lines.specs.Asked.{asked, asked_by}
 use Rattle.kept_lines.specs.KeptLines.{kept_set}
+use Rattle.variable_places.specs.Places.{voice_rows, shared_rows, asks, has_byte, voice_labels, other_labels}
+use Rattle.variable_places.specs.Places.{free_places, funk_place, variable_count}
 use Rattle.image_parts.specs.CodeParts.{code_length}
 use Rattle.player_build.specs.declared.image.PartSpan.{PartSpan}
 use Rattle.player_build.specs.Spans.{IsNamed, IsNamedAs, NamesEach, IsOfLists}
@@ -96,28 +98,28 @@ spans_are_worked = record {
 
 -- the numbers between which the lists stand
 record Ends (packed : PackedSong) : Type 0 where
-  code : code_length (asked_by packed) no_options ≡ 677
+  code : code_length (asked_by packed) no_options ≡ 634
   speeds : length packed.speed ≡ 2
 
 -- what the song asks for, and how long its code is
-asks : (packed : PackedSong) → HasTwoSpeeds packed → asked_by packed ≡ asked 0x402000 no_facts
-asks packed is = rw (is.features, is.facts) refl
+asked_is : (packed : PackedSong) → HasTwoSpeeds packed → asked_by packed ≡ asked 0x402000 no_facts
+asked_is packed is = rw (is.features, is.facts) refl
 
 asked_alone : asked 0x402000 no_facts ≡ 0x402000
 unfolding asked
 asked_alone = refl
 
-code_is : code_length 0x402000 no_options ≡ 677
-unfolding kept_set
+code_is : code_length 0x402000 no_options ≡ 634
+unfolding kept_set voice_rows shared_rows asks has_byte voice_labels other_labels free_places funk_place variable_count
 code_is = refl
 
 ends_of : (packed : PackedSong) → HasTwoSpeeds packed → Ends packed
 ends_of packed is = record {
-  code = ap (λ set. code_length set no_options) (asks packed is ∙ asked_alone) ∙ code_is;
+  code = ap (λ set. code_length set no_options) (asked_is packed is ∙ asked_alone) ∙ code_is;
   speeds = is.speed;
 }
 
-not_listed : (packed : PackedSong) → Ends packed → (byte : ℕ) → (byte < 676) ⊎ (678 ≤ byte) → byte < 679 →
+not_listed : (packed : PackedSong) → Ends packed → (byte : ℕ) → (byte < 633) ⊎ (635 ≤ byte) → byte < 636 →
     ¬ IsOfLists packed no_options byte
 not_listed packed ends byte outside below (inl speeds) =
     let code = ends.code in
@@ -132,7 +134,7 @@ not_listed packed ends byte outside below (inr behind) =
     let rows = ends.speeds in
     omega (arith, code, rows, behind, below)
 
-speed_listed : (packed : PackedSong) → Ends packed → (byte : ℕ) → 676 ≤ byte → byte < 678 →
+speed_listed : (packed : PackedSong) → Ends packed → (byte : ℕ) → 633 ≤ byte → byte < 635 →
     IsOfLists packed no_options byte
 speed_listed packed ends byte from to =
     let code = ends.code in
@@ -142,11 +144,11 @@ speed_listed packed ends byte from to =
 pub two_speeds_are_worked : TwoSpeedsAreWorked
 two_speeds_are_worked packed is =
     let ends = ends_of packed is in record {
-      last_code = not_listed packed ends 674 (inl (omega arith)) (omega arith);
-      first_zero = not_listed packed ends 675 (inl (omega arith)) (omega arith);
-      first_speed = speed_listed packed ends 676 (omega arith) (omega arith);
-      last_speed = speed_listed packed ends 677 (omega arith) (omega arith);
-      second_zero = not_listed packed ends 678 (inr (omega arith)) (omega arith);
+      last_code = not_listed packed ends 631 (inl (omega arith)) (omega arith);
+      first_zero = not_listed packed ends 632 (inl (omega arith)) (omega arith);
+      first_speed = speed_listed packed ends 633 (omega arith) (omega arith);
+      last_speed = speed_listed packed ends 634 (omega arith) (omega arith);
+      second_zero = not_listed packed ends 635 (inr (omega arith)) (omega arith);
       behind = (let code = ends.code in let rows = ends.speeds in inr (omega (arith, code, rows)));
       no_spans = λ size some names.
           none_there ((names.named 0 some).1 (not_listed packed ends 0 (inl (omega arith)) (omega arith)));

@@ -22,6 +22,6 @@ pub record IsBuild (packed : PackedSong) (place : Place) (options : Options) (bu
   pub fits : place.address + length built.bytes ≤ image_end
   pub parts : NamesParts packed options (length built.bytes) built.parts
   -- any calls in any order play the song, from the first init on each by the image's bytes alone; and it holds the start of
-  -- the first subtune
+  -- the first subtune, with spare zeros for the variables without a byte
   pub plays : (song : Song) → StandsFor packed song →
       ImagePlays packed song options built.place.address built.place.zero_page built.bytes image

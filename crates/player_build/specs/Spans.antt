@@ -5,7 +5,7 @@ use Rattle.std.specs.Prelude.{◌==◌, if◌then◌else◌}
 use Rattle.play_model.specs.declared.options.Options.{Options}
 use Rattle.packed_form.specs.declared.packed_songs.PackedSong.{PackedSong}
 use Rattle.packed_form.specs.Sizes.{packed_song_size}
-use Rattle.player_memory.specs.declared.labels.TheConstants.{VARIABLES}
+use Rattle.player_image.specs.Images.{image_count}
 use Rattle.kept_lines.specs.Asked.{asked_by}
 use Rattle.image_parts.specs.CodeParts.{always, code_parts, code_length, zero_bytes, part_length}
 use Rattle.image_parts.specs.Lengths.{slide_bytes, frequency_bytes}
@@ -58,7 +58,7 @@ IsOfLists packed options byte =
 
 -- the two entries of three bytes and the variables behind them, and the two zeros, are of the part that is always kept
 pub record NamesCommon (packed : PackedSong) (options : Options) (spans : List PartSpan) : Type 0 where
-  pub front : (byte : ℕ) → byte < 6 + VARIABLES → IsNamedAs spans byte always
+  pub front : (byte : ℕ) → byte < 6 + image_count packed options → IsNamedAs spans byte always
   pub first_zero : IsNamedAs spans (code_length (asked_by packed) options - zero_bytes) always
   pub second_zero :
       IsNamedAs spans (code_length (asked_by packed) options - zero_length + length packed.speed) always

@@ -76,5 +76,5 @@ few_bytes asked options code is =
     subst (λ (c : List ℕ). length c ≤ 65535) (sym is)
     (without (length (code_parts asked options)) (image_parts.code_is_short asked options))
   where
-    without : (n : ℕ) → n + 2 ≤ 1664 → n ≤ 65535
+    without : (n : ℕ) → n + 2 ≤ 1668 → n ≤ 65535
     without n few = omega (arith, few)

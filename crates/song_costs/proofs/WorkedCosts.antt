@@ -21,6 +21,8 @@ use Rattle.player_memory.specs.declared.conditions.TheConstants.{FILTER_USED}
 use Rattle.player_memory.specs.FactLines.{fact_condition}
 use Rattle.kept_lines.specs.Asked.{asked}
 use Rattle.kept_lines.specs.KeptLines.{kept_set}
+use Rattle.variable_places.specs.Places.{voice_rows, shared_rows, asks, has_byte, voice_labels, other_labels}
+use Rattle.variable_places.specs.Places.{free_places, funk_place, variable_count}
 use Rattle.song_places.specs.declared.places.Place.{Place}
 use Rattle.song_places.specs.declared.places.Place.TheVariants.{InOrder, InPattern, InInstrument, InWaveTable}
 use Rattle.song_costs.specs.declared.kept.Cause.TheVariants.{InSong}
@@ -38,6 +40,7 @@ use Rattle.song_places.proofs.Laws.{filter_places_are_worked}
 pub note_is_worked : NoteIsWorked
 unfolding packed_text first_row is_closed are_equal first_equal keeps stand_in speed_rows speed_number table_number
     instrument_number pattern_text pattern_texts table_row pattern_at asked kept_set packed_size
+    voice_rows shared_rows asks has_byte voice_labels other_labels free_places funk_place variable_count
 note_is_worked = record {
   each = refl;
   bytes = refl;
@@ -51,6 +54,7 @@ note_is_worked = record {
 pub tables_are_counted : TablesAreCounted
 unfolding packed_text first_row is_closed are_equal first_equal keeps stand_in speed_rows speed_number table_number
     instrument_number pattern_text pattern_texts table_row pattern_at asked kept_set packed_size
+    voice_rows shared_rows asks has_byte voice_labels other_labels free_places funk_place variable_count
 tables_are_counted = record {
   wave = refl;
   pulse = refl;
@@ -87,7 +91,8 @@ slides : (part : ℕ) → keeps_part (bit_of PortaUp) part ≡ true → NeedsFor
 slides part kept = inl (record { feature = PortaUp; is_kept = kept; needs = risen })
 
 transposes : IsToldOf no_options (part_cost 0 16 (InSong (InOrder 2 2 1)))
-unfolding asked kept_set
+unfolding asked kept_set voice_rows shared_rows asks has_byte voice_labels other_labels free_places funk_place
+    variable_count
 transposes = record {
   kept = refl;
   bytes = refl;
@@ -96,7 +101,8 @@ transposes = record {
 }
 
 portamentos : IsToldOf no_options (part_cost 2 4 (InSong (InPattern 1 1)))
-unfolding asked kept_set
+unfolding asked kept_set voice_rows shared_rows asks has_byte voice_labels other_labels free_places funk_place
+    variable_count
 portamentos = record {
   kept = refl;
   bytes = refl;
@@ -105,7 +111,8 @@ portamentos = record {
 }
 
 filters : IsToldOf no_options (part_cost 15 76 (InSong (InInstrument 3)))
-unfolding asked kept_set
+unfolding asked kept_set voice_rows shared_rows asks has_byte voice_labels other_labels free_places funk_place
+    variable_count
 filters = record {
   kept = refl;
   bytes = refl;
@@ -114,7 +121,8 @@ filters = record {
 }
 
 waves : IsToldOf no_options (part_cost 22 45 (InSong (InInstrument 1)))
-unfolding asked kept_set
+unfolding asked kept_set voice_rows shared_rows asks has_byte voice_labels other_labels free_places funk_place
+    variable_count
 waves = record {
   kept = refl;
   bytes = refl;
@@ -123,7 +131,8 @@ waves = record {
 }
 
 wave_commands : IsToldOf no_options (part_cost 23 80 (InSong (InWaveTable 2)))
-unfolding asked kept_set
+unfolding asked kept_set voice_rows shared_rows asks has_byte voice_labels other_labels free_places funk_place
+    variable_count
 wave_commands = record {
   kept = refl;
   bytes = refl;
@@ -132,7 +141,8 @@ wave_commands = record {
 }
 
 climb : IsToldOf no_options (part_cost CLIMB 10 (InSong (InPattern 1 1)))
-unfolding asked kept_set
+unfolding asked kept_set voice_rows shared_rows asks has_byte voice_labels other_labels free_places funk_place
+    variable_count
 climb = record {
   kept = refl;
   bytes = refl;
@@ -141,7 +151,8 @@ climb = record {
 }
 
 rise : IsToldOf no_options (part_cost RISE 17 (InSong (InPattern 1 1)))
-unfolding asked kept_set
+unfolding asked kept_set voice_rows shared_rows asks has_byte voice_labels other_labels free_places funk_place
+    variable_count
 rise = record {
   kept = refl;
   bytes = refl;
@@ -150,7 +161,8 @@ rise = record {
 }
 
 row_slides : IsToldOf no_options (part_cost ROW_SLIDE 9 (InSong (InPattern 1 1)))
-unfolding asked kept_set
+unfolding asked kept_set voice_rows shared_rows asks has_byte voice_labels other_labels free_places funk_place
+    variable_count
 row_slides = record {
   kept = refl;
   bytes = refl;
@@ -159,7 +171,8 @@ row_slides = record {
 }
 
 masks : IsToldOf no_options (part_cost FIRST_MASK 6 (InSong (InInstrument 1)))
-unfolding asked kept_set
+unfolding asked kept_set voice_rows shared_rows asks has_byte voice_labels other_labels free_places funk_place
+    variable_count
 masks = record {
   kept = refl;
   bytes = refl;
@@ -168,7 +181,8 @@ masks = record {
 }
 
 gate_notes : IsToldOf no_options (part_cost GATE_NOTE 12 (InSong (InPattern 2 1)))
-unfolding asked kept_set
+unfolding asked kept_set voice_rows shared_rows asks has_byte voice_labels other_labels free_places funk_place
+    variable_count
 gate_notes = record {
   kept = refl;
   bytes = refl;
@@ -177,7 +191,8 @@ gate_notes = record {
 }
 
 note_filters : IsToldOf no_options (part_cost NOTE_FILTER 13 (InSong (InInstrument 3)))
-unfolding asked kept_set
+unfolding asked kept_set voice_rows shared_rows asks has_byte voice_labels other_labels free_places funk_place
+    variable_count
 note_filters = record {
   kept = refl;
   bytes = refl;
@@ -185,8 +200,9 @@ note_filters = record {
   cause = own_fact_first NoteFilter (InInstrument 3) facts_are_worked.filter;
 }
 
-row_commands : IsToldOf no_options (part_cost ROW_COMMAND 18 (InSong (InPattern 1 1)))
-unfolding asked kept_set
+row_commands : IsToldOf no_options (part_cost ROW_COMMAND 24 (InSong (InPattern 1 1)))
+unfolding asked kept_set voice_rows shared_rows asks has_byte voice_labels other_labels free_places funk_place
+    variable_count
 row_commands = record {
   kept = refl;
   bytes = refl;
@@ -196,7 +212,8 @@ row_commands = record {
 }
 
 special : IsToldOf no_options (part_cost SPECIAL_ROW 4 (InSong (InWaveTable 2)))
-unfolding asked kept_set
+unfolding asked kept_set voice_rows shared_rows asks has_byte voice_labels other_labels free_places funk_place
+    variable_count
 special = record {
   kept = refl;
   bytes = refl;
@@ -207,8 +224,9 @@ special = record {
 runs_at : NeedsFor crossing EFFECTS (InPattern 1 1)
 runs_at = inr (record { fact = RowSlide; is_kept = refl; needs = facts_are_worked.slide.is_such })
 
-effects : IsToldOf no_options (part_cost EFFECTS 26 (InSong (InPattern 1 1)))
-unfolding asked kept_set
+effects : IsToldOf no_options (part_cost EFFECTS 28 (InSong (InPattern 1 1)))
+unfolding asked kept_set voice_rows shared_rows asks has_byte voice_labels other_labels free_places funk_place
+    variable_count
 effects = record {
   kept = refl;
   bytes = refl;
@@ -217,7 +235,8 @@ effects = record {
 }
 
 filter_used : IsToldOf no_options (part_cost FILTER_USED 9 (InSong (InInstrument 3)))
-unfolding asked kept_set
+unfolding asked kept_set voice_rows shared_rows asks has_byte voice_labels other_labels free_places funk_place
+    variable_count
 filter_used = record {
   kept = refl;
   bytes = refl;
@@ -248,7 +267,8 @@ fact_parts_are_worked = record {
 }
 
 pub parts_are_worked : PartsAreWorked
-unfolding asked kept_set
+unfolding asked kept_set voice_rows shared_rows asks has_byte voice_labels other_labels free_places funk_place
+    variable_count
 parts_are_worked = record {
   transposes = transposes;
   later = λ told. transposes_are_worked.not_first (first_own Transpose (InOrder 2 3 0) told.cause);
@@ -272,7 +292,8 @@ more : {cost : PartCost} {costs : List PartCost} → IsToldOf no_options cost �
 more {cost} {costs} told rest = record { each = All-cons (IsToldOf no_options) cost costs told rest.each }
 
 pub list_is_worked : ListIsWorked
-unfolding asked kept_set
+unfolding asked kept_set voice_rows shared_rows asks has_byte voice_labels other_labels free_places funk_place
+    variable_count
 list_is_worked = record {
   all = record {
     parts = refl;
@@ -287,7 +308,8 @@ list_is_worked = record {
 }
 
 pub options_are_worked : OptionsAreWorked
-unfolding asked kept_set
+unfolding asked kept_set voice_rows shared_rows asks has_byte voice_labels other_labels free_places funk_place
+    variable_count
 options_are_worked = record {
   no_bytes = λ song bytes cause told. told.some told.bytes;
   not_kept = λ bytes cause told. (let e = told.kept in absurd (cc));

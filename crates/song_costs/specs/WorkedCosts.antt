@@ -47,11 +47,11 @@ abbrev pub note_costs : Costs
 note_costs = costs_of one_note (note_sets (0 ∷ 1 ∷ [])) (asked note_features note_facts) note_range no_options
 
 -- three orderlists of one entry, the patterns 01 90 BE 00 and C0 00, one instrument, two rows in each of two tables;
--- 542 bytes of the player that each image has, 90 and 45 for a pulse and a wave program, 12 for a keyoff, and 13 for an
+-- 499 bytes of the player that each image has, 90 and 45 for a pulse and a wave program, 12 for a keyoff, and 13 for an
 -- instrument that begins a pulse program; and the frequencies 44 to 48, with 44 bytes in front of them
 pub record NoteIsWorked : Type 0 where
   pub each : note_costs ≡ record {
-    player = 702;
+    player = 659;
     orders = 15;
     patterns = 10;
     instruments = 9;
@@ -62,12 +62,12 @@ pub record NoteIsWorked : Type 0 where
     frequencies = 10;
   }
   pub bytes : data_bytes note_costs ≡ 52
-  pub all : all_bytes note_costs ≡ 754
+  pub all : all_bytes note_costs ≡ 711
   -- without the zeros, and with the frequency of the song's number alone
-  pub few : note_costs.player ≢ 700
+  pub few : note_costs.player ≢ 657
   pub alone : note_costs.frequencies ≢ 2
   -- without the facts
-  pub bare : (costs_of one_note (note_sets (0 ∷ 1 ∷ [])) note_features note_range no_options).player ≡ 677
+  pub bare : (costs_of one_note (note_sets (0 ∷ 1 ∷ [])) note_features note_range no_options).player ≡ 634
   -- an equal pattern is stored once, and a note for each of three orderlists isn't
   pub once : (costs_of two_rests (note_sets (0 ∷ 1 ∷ 2 ∷ [])) (asked note_features note_facts) note_range no_options).patterns
       ≡ 10
@@ -163,10 +163,10 @@ pub record FactPartsAreWorked : Type 0 where
   pub filters : IsToldOf no_options (part_cost NOTE_FILTER 13 (InSong (InInstrument 3)))
   pub unused_filter : ¬ IsToldOf no_options (part_cost NOTE_FILTER 13 (InSong (InInstrument 2)))
   pub no_pulse : (bytes : ℕ) (cause : Cause) → ¬ IsToldOf no_options (part_cost NOTE_PULSE bytes cause)
-  pub commands : IsToldOf no_options (part_cost ROW_COMMAND 18 (InSong (InPattern 1 1)))
+  pub commands : IsToldOf no_options (part_cost ROW_COMMAND 24 (InSong (InPattern 1 1)))
   pub special : IsToldOf no_options (part_cost SPECIAL_ROW 4 (InSong (InWaveTable 2)))
-  pub effects : IsToldOf no_options (part_cost EFFECTS 26 (InSong (InPattern 1 1)))
-  pub later_effect : ¬ IsToldOf no_options (part_cost EFFECTS 26 (InSong (InWaveTable 2)))
+  pub effects : IsToldOf no_options (part_cost EFFECTS 28 (InSong (InPattern 1 1)))
+  pub later_effect : ¬ IsToldOf no_options (part_cost EFFECTS 28 (InSong (InWaveTable 2)))
   pub filter_used : IsToldOf no_options (part_cost FILTER_USED 9 (InSong (InInstrument 3)))
   pub no_special : ¬ IsToldOf no_options (part_cost SPECIAL_ROW 4 (InSong (InWaveTable 3)))
   pub no_legato : (bytes : ℕ) (cause : Cause) → ¬ IsToldOf no_options (part_cost LEGATO bytes cause)
@@ -181,8 +181,8 @@ pub record ListIsWorked : Type 0 where
       ∷ part_cost RISE 17 (InSong (InPattern 1 1)) ∷ part_cost ROW_SLIDE 9 (InSong (InPattern 1 1))
       ∷ part_cost FIRST_MASK 6 (InSong (InInstrument 1)) ∷ part_cost GATE_NOTE 12 (InSong (InPattern 2 1))
       ∷ part_cost NOTE_FILTER 13 (InSong (InInstrument 3))
-      ∷ part_cost ROW_COMMAND 18 (InSong (InPattern 1 1)) ∷ part_cost SPECIAL_ROW 4 (InSong (InWaveTable 2))
-      ∷ part_cost EFFECTS 26 (InSong (InPattern 1 1)) ∷ part_cost FILTER_USED 9 (InSong (InInstrument 3)) ∷ [])
+      ∷ part_cost ROW_COMMAND 24 (InSong (InPattern 1 1)) ∷ part_cost SPECIAL_ROW 4 (InSong (InWaveTable 2))
+      ∷ part_cost EFFECTS 28 (InSong (InPattern 1 1)) ∷ part_cost FILTER_USED 9 (InSong (InInstrument 3)) ∷ [])
   pub other_order : (rest : List PartCost) → ¬ AreKeptParts crossing crossing_asked no_options
       (part_cost 15 76 (InSong (InInstrument 3)) ∷ rest)
 
@@ -193,8 +193,8 @@ pub record OptionsAreWorked : Type 0 where
       ¬ IsPartCost song (2 ^ bit_of Vibrato) no_options (part_cost 6 bytes cause)
   pub not_kept : (bytes : ℕ) (cause : Cause) → ¬ IsToldOf no_options (part_cost 13 bytes cause)
   pub skip : IsToldOf (all_left_out 4) (part_cost 24 8 SkipOption)
-  pub first : IsToldOf (first_left_out 1) (part_cost 27 36 SkipOption)
+  pub first : IsToldOf (first_left_out 1) (part_cost 27 40 SkipOption)
   pub timer : IsToldOf (all_left_out 4) (part_cost 26 10 SpeedOption)
-  pub not_first : ¬ IsToldOf (left_out true true 4) (part_cost 27 36 SkipOption)
+  pub not_first : ¬ IsToldOf (left_out true true 4) (part_cost 27 40 SkipOption)
   pub not_skip : ¬ IsToldOf no_options (part_cost 24 8 SkipOption)
   pub other_cause : ¬ IsToldOf (all_left_out 4) (part_cost 24 8 SpeedOption)

@@ -1,12 +1,15 @@
 -- The parts for what a song asks for and options.
-use Rattle.std.proofs.Common.{◌≡◌, ℕ, List, Result, Ok, Err, ap, ◌∙◌}
+use Rattle.std.proofs.Common.{◌≡◌, ℕ, List, Result, Ok, Err, ap, ◌∙◌, arith}
 use Rattle.std.specs.Prelude.{IfOk}
 use Rattle.scopes.specs.declared.line.Line.{Line}
 use Rattle.scopes.specs.Trees.{tree_of}
 use Rattle.scope_lines.specs.Readings.{holds_in}
 use Rattle.player_text.specs.declared.texts.Start.{Start}
 use Rattle.player_text.specs.Texts.{init_lines}
+use Rattle.kept_lines.specs.Starts.{start_of}
 use Rattle.kept_lines.specs.KeptLines.{kept_set}
+use Rattle.variable_places.specs.Places.{variable_count}
+use Rattle.variable_places.proofs.Laws.{counts_are_few}
 use Rattle.image_parts.specs.CodeParts.{parts_around}
 use Rattle.image_parts.proofs.parts.code_parts.Goals as goal
 
@@ -15,15 +18,28 @@ if_ok : {X E : Type 0} {P Q : X → Type 0} (result : Result X E) → ((x : X) �
 if_ok (Ok x) more holds = more x holds
 if_ok (Err e) more holds = tt
 
+-- there is a variable at least
+pub init-requires : goal.init-requires
+init-requires c =
+    let count = c.variable_places-variables.ensures.count in
+    let few = (counts_are_few (holds_in c.conditions-conditions.result.0)).0 in
+    omega (arith, count, few)
+
 pub returns : goal.returns
 returns c =
     let set : ℕ = kept_set c.args.asked.0 c.args.options.now in
-    let lines : c.as_slice-3.result.now ≡ init_lines c.start_of.result =
+    let variables : ℕ = c.variable_places-variables.result.count in
+    let count : variables ≡ variable_count (holds_in set) =
+    c.variable_places-variables.ensures.count
+    ∙ ap (λ (s : ℕ). variable_count (holds_in s)) c.conditions-conditions.ensures
+    in
+    let lines : c.as_slice-3.result.now ≡ init_lines c.start_of.result variables =
     c.as_slice-3.ensures ∙ c.in_ok-init.ensures in
     if_ok c.parts_around.result
     (λ list is.
     is
-    ∙ ap (λ (s : ℕ). parts_around (holds_in s) (tree_of c.as_slice-3.result.now)) c.conditions.ensures
+    ∙ ap (λ (s : ℕ). parts_around (holds_in s) (tree_of c.as_slice-3.result.now)) c.conditions-conditions.ensures
     ∙ ap (λ (ls : List Line). parts_around (holds_in set) (tree_of ls)) lines
-    ∙ ap (λ (start : Start). parts_around (holds_in set) (tree_of (init_lines start))) c.start_of.ensures)
+    ∙ ap (λ (start : Start). parts_around (holds_in set) (tree_of (init_lines start variables))) c.start_of.ensures
+    ∙ ap (λ (n : ℕ). parts_around (holds_in set) (tree_of (init_lines (start_of c.args.options.now) n))) count)
     c.parts_around.ensures

@@ -1,5 +1,5 @@
 -- The parts of the blocks and of what stands around them, one behind the other.
-use Rattle.std.proofs.Common.{◌≡◌, ℕ, List, [], ◌++◌, ap, ◌∙◌}
+use Rattle.std.proofs.Common.{◌≡◌, ℕ, ◌+◌, List, [], ◌++◌, replicate, ap, ◌∙◌}
 use Rattle.std.proofs.lemmas.List.{append_assoc}
 use Rattle.scopes.specs.declared.line.Line.{Line}
 use Rattle.scopes.specs.Trees.{tree_of}
@@ -25,7 +25,9 @@ joined none one two three four five six all a f b v c i d e0 e1 e2 e3 e4 e5 e6 e
 pub returns : goal.returns
 returns c =
     let block : List Line → List ℕ = (λ lines. parts (holds_in c.args.conditions.0) always (tree_of lines)) in
-    joined _ _ _ _ _ _ _ _ _ _ _ _ _ _ _ c.new-list.ensures c.in_ok-push_always.ensures
+    joined _ _ _ _ _ _ _ _ _ _ _ _ _ _ _ c.new-list.ensures
+    (c.in_ok-push_always.ensures
+    ∙ ap (λ (n : ℕ). c.new-list.result ++ replicate (7 + n) always) (c.from.ensures ∙ c.requires.variables))
     (c.in_ok-push_parts.ensures ∙ ap (λ ls. c.push_always.new.list ++ block ls) c.requires.filter)
     c.in_ok-push_always-2.ensures
     (c.in_ok-push_parts-2.ensures ∙ ap (λ ls. c.push_always-2.new.list ++ block ls) c.requires.voice)
