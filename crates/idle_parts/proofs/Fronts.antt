@@ -12,7 +12,8 @@ use Rattle.player_memory.specs.declared.labels.TheConstants.{TICK, NEW_COMMAND, 
 use Rattle.player_memory.specs.declared.labels.TheConstants.{REPEAT}
 use Rattle.player_memory.specs.Fetching.{WalkStands, GoesOn, Repeats}
 use Rattle.idle_parts.specs.Idle.{HoldsVoice}
-use Rattle.idle_parts.specs.Fronts.{FrontsEnd, StoredIsLow, CommandsAreFound, EffectsAreFound, NotesAreFound, LentAreFound}
+use Rattle.idle_parts.specs.Fronts.{FrontsEnd, StoredIsLow, CommandsAreFound, EffectsAreFound, NotesAreFound}
+use Rattle.idle_parts.specs.Fronts.{LentAreFound}
 use Rattle.idle_parts.specs.Fronts.{PlaysAreFound}
 use Rattle.idle_parts.proofs.Reading.{own_sees, own_writes, own_is, own_bytes}
 

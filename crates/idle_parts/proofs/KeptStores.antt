@@ -10,7 +10,8 @@ use Rattle.scopes.specs.Trees.{Tree}
 use Rattle.scopes.specs.Meaning.{Done, each_one, ran}
 use Rattle.player_memory.specs.declared.conditions.TheConstants.{EFFECTS, SWINGS, NOTE_VIBRATO}
 use Rattle.player_memory.specs.declared.conditions.TheConstants.{WAVE_DELAY, SKIP_FIRST, ROW_COMMAND}
-use Rattle.player_memory.specs.declared.labels.TheConstants.{NEW_COMMAND, NEW_PARAM, COMMAND, PARAM, VIB_TIME, VIB_DELAY}
+use Rattle.player_memory.specs.declared.labels.TheConstants.{NEW_COMMAND, NEW_PARAM, COMMAND, PARAM, VIB_TIME}
+use Rattle.player_memory.specs.declared.labels.TheConstants.{VIB_DELAY}
 use Rattle.player_memory.specs.declared.labels.TheConstants.{LAST_NOTE, WAVE_TIME, VOLUME, FUNK_ONE, FUNK_TWO, VIBRATOS}
 use Rattle.player_memory.specs.declared.labels.TheConstants.{TICK, KEPT_PARAM}
 use Rattle.player_text.specs.declared.tick.TheConstants.{NOTE_BEGUN, COMMAND_BEGUN}

@@ -6,7 +6,8 @@ use Rattle.play_model.specs.State.{Voice, Common, Playing}
 use Rattle.scopes.specs.Desk.{Desk, Layout}
 use Rattle.player_memory.specs.declared.conditions.TheConstants.{ROW_COMMAND, EFFECTS, INSTRUMENT_VIBRATO}
 use Rattle.player_memory.specs.declared.conditions.TheConstants.{PULSE_TABLE, FILTER_USED, SET_VOLUME}
-use Rattle.player_memory.specs.declared.labels.TheConstants.{TICK, INSTRUMENT, NEW_COMMAND, NEW_PARAM, COMMAND, PARAM, VIB_DELAY}
+use Rattle.player_memory.specs.declared.labels.TheConstants.{TICK, INSTRUMENT, NEW_COMMAND, NEW_PARAM, COMMAND, PARAM}
+use Rattle.player_memory.specs.declared.labels.TheConstants.{VIB_DELAY}
 use Rattle.player_memory.specs.declared.labels.TheConstants.{WAVE_POINTER, PULSE_POINTER, PULSE_LOW, PULSE_HIGH}
 use Rattle.player_memory.specs.declared.labels.TheConstants.{FILTER_TYPE, FILTER_CONTROL, CUTOFF, VOLUME}
 use Rattle.player_memory.specs.Variables.{CommonBytesStand}

@@ -1,5 +1,6 @@
 -- Where the parts of the tick step do nothing.
-use Rattle.std.proofs.Common.{◌≡◌, ◌≢◌, ℕ, ◌+◌, ◌*◌, ◌-◌, ◌%◌, ◌<◌, ◌≤◌, [], ◌∷◌, Bool, true, false, nat_eq, nat_le, refl}
+use Rattle.std.proofs.Common.{◌≡◌, ◌≢◌, ℕ, ◌+◌, ◌*◌, ◌-◌, ◌%◌, ◌<◌, ◌≤◌, [], ◌∷◌, Bool, true, false, nat_eq, nat_le}
+use Rattle.std.proofs.Common.{refl}
 use Rattle.std.proofs.Common.{◌∙◌, sym, inl, inr, lit<, lit≤, arith}
 use Rattle.std.proofs.lemmas.Bool.Decides.{eqb_tells}
 use Rattle.std.proofs.lemmas.Bool.{le-leb, lt-leb, ne_eqb, cases_lt}

@@ -70,8 +70,8 @@ pub record FindsNote (layout : Layout) (desk : Desk) : Type 0 where
 abbrev pub NotesAreFound : Type 0
 NotesAreFound = (layout : Layout) (desk : Desk) → 0x60 ≤ desk.cpu.a → desk.cpu.a < 0xBD → FindsNote layout desk
 
--- The commands of the wave table find the command, 5 up, in Y and the row's right side in A; the pointer's low byte has the
--- command, too.
+-- The commands of the wave table find the command, 5 up, in Y and the row's right side in A; the pointer's low byte has
+-- the command, too.
 pub record FindsLent (layout : Layout) (command right : ℕ) (run : Ran) (before : Desk) : Type 0 where
   pub ends : run.outcome ≡ Done
   pub a_is : run.desk.cpu.a ≡ right
@@ -86,8 +86,8 @@ LentAreFound =
 
 -- ---- what the walk finds
 
--- The walk stands in front of a play (`WalkStands`): no plays are left of the pattern before, or it repeats that pattern,
--- for which the lines are kept.
+-- The walk stands in front of a play (`WalkStands`): no plays are left of the pattern before, or it repeats that
+-- pattern, for which the lines are kept.
 abbrev pub PlaysAreFound : Type 0
 PlaysAreFound =
     (layout : Layout) (order : Order) (n : ℕ) (own : ℕ → ℕ) → WalkStands layout order n own →

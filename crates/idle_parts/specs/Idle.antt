@@ -36,8 +36,8 @@ has_body condition (ChooseTree own this other) =
 has_body condition tree = false
 
 -- The lines that stand in front of the first one, up to where it is come to for the first time. The scopes in which it
--- stands are left out, so that what leaves one of them doesn't come to the end, and so are the conditions, which are taken
--- to hold.
+-- stands are left out, so that what leaves one of them doesn't come to the end, and so are the conditions, which are
+-- taken to hold.
 abbrev pub front : ℕ → Tree → Tree
 front condition (ThenTree first rest) =
     if has_body condition first then front condition first else ThenTree first (front condition rest)

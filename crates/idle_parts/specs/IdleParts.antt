@@ -1,5 +1,5 @@
--- Where each of the player's parts does nothing: from any memory that holds a state which keeps clear of it. What a block
--- finds in registers is said with the block's own lines. A law on lines that read a byte which is kept under a
+-- Where each of the player's parts does nothing: from any memory that holds a state which keeps clear of it. What a
+-- block finds in registers is said with the block's own lines. A law on lines that read a byte which is kept under a
 -- condition alone has that condition as a premise: it is about layouts that keep the byte. This is the project's own
 -- player.
 use Rattle.std.specs.Prelude.{◌≡◌, ◌≢◌, ℕ, ◌+◌, ◌%◌, ◌<◌, ◌≤◌, ◌⊎◌, true, false, List, [], ◌∷◌}
@@ -95,12 +95,13 @@ pub record ProgramsIdle (layout : Layout) (rows voice : ℕ) (s : Playing) (desk
 -- ---- the effect step
 
 pub record EffectsIdle (layout : Layout) (rows voice : ℕ) (s : Playing) (desk : Desk) : Type 0 where
-  -- the instrument's vibrato, where no command runs: it has no parameter, or a delay of 0, which never ends, or the step
-  -- is left out
+  -- the instrument's vibrato, where no command runs: it has no parameter, or a delay of 0, which never ends, or the
+  -- step is left out
   pub vibrato : layout.holds EFFECTS ≡ true → layout.holds INSTRUMENT_VIBRATO ≡ true →
       (s.voice.param ≡ 0) ⊎ (s.voice.vib_delay ≡ 0) ⊎ ((layout.holds SKIP_EFFECTS ≡ true) × (s.voice.tick ≡ 0)) →
       IdlesWhereMet layout INSTRUMENT_VIBRATO EFFECT_BEGUN.now desk []
-  -- the left side of the row of the speed table is below $80; A is the command that runs, 4 for the instrument's vibrato
+  -- the left side of the row of the speed table is below $80; A is the command that runs, 4 for the instrument's
+  -- vibrato
   pub speed : layout.holds EFFECTS ≡ true → (command left : ℕ) →
       IsListed layout rows desk.at SPEED_LEFTS s.voice.param left → left < 0x80 →
       ((s.voice.command ≢ 0) × (command ≡ s.voice.command)) ⊎ ((s.voice.command ≡ 0) × (command ≡ 4)) →
@@ -143,8 +144,8 @@ pub record FactsIdle (layout : Layout) (rows voice : ℕ) (s : Playing) (desk : 
   pub once : desk.cpu.a < 5 → Idles layout (part ROW_ONCE 0 COMMAND_BEGUN.now) desk (A ∷ Y ∷ [])
   -- A is an instrument's first waveform, as the flag shows
   pub mask : desk.cpu.z ≡ false → desk.cpu.a < 0xFE → Idles layout (part FIRST_MASK 0 NOTE_BEGUN.now) desk (A ∷ Y ∷ [])
-  -- Y is the instrument: its vibrato's delay is stored as 255, as is the voice's; its vibrato is 0, as is A, where a note
-  -- begins and where a row has no command; and it has no pulse program and no filter program
+  -- Y is the instrument: its vibrato's delay is stored as 255, as is the voice's; its vibrato is 0, as is A, where a
+  -- note begins and where a row has no command; and it has no pulse program and no filter program
   pub delay : layout.holds INSTRUMENT_VIBRATO ≡ true → IsListed layout rows desk.at DELAYS desk.cpu.y 255 →
       s.voice.vib_delay ≡ 0 →
       Idles layout (part VIBRATO_DELAY 0 NOTE_TAKEN.now) desk (Y ∷ [])

@@ -29,10 +29,11 @@ pub record PlayTheSame (one other : Layout) (packed : PackedSong) (o : Options) 
   pub registers : (register : ℕ) → register < 25 →
       here.desk.at (0xD400 + register) ≡ there.desk.at (0xD400 + register)
 
--- Two layouts for which the frame is ready may differ in where all stands, and in each condition of what the frame doesn't
--- use: what stands under those can be kept or left out.
+-- Two layouts for which the frame is ready may differ in where all stands, and in each condition of what the frame
+-- doesn't use: what stands under those can be kept or left out.
 abbrev pub PartsCanBeLeftOut : Type 0
 PartsCanBeLeftOut =
-    (one other : Layout) (packed : PackedSong) (o : Options) (k : ℕ) (x : FrameState) (e : Entrance) (here there : Desk) →
+    (one other : Layout) (packed : PackedSong) (o : Options) (k : ℕ) (x : FrameState) (e : Entrance)
+    (here there : Desk) →
     PlaysFrames e → IsReadyFor one packed o k x here → IsReadyFor other packed o k x there →
     PlayTheSame one other packed o k x (entrance_ran one e here) (entrance_ran other e there)

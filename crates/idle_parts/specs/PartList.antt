@@ -6,16 +6,24 @@ use Rattle.scopes.specs.declared.line.Line.TheVariants.{With}
 use Rattle.scopes.specs.declared.line.Operand.TheVariants.{Number}
 use Rattle.scopes.specs.Trees.{tree_of}
 use Rattle.player_memory.specs.declared.conditions.TheConstants.{TRANSPOSES, REPEATS, PORTA_UP, PORTA_DOWN, TONE_PORTA}
-use Rattle.player_memory.specs.declared.conditions.TheConstants.{TIE_NOTE, VIBRATO, INSTRUMENT_VIBRATO, NOTE_DEPENDENT, SET_AD}
-use Rattle.player_memory.specs.declared.conditions.TheConstants.{SET_SR, SET_WAVE, SET_WAVE_POINTER, PULSE_TABLE, SET_PULSE_POINTER}
-use Rattle.player_memory.specs.declared.conditions.TheConstants.{FILTER_TABLE, SET_FILTER_POINTER, SET_FILTER_CONTROL, SET_CUTOFF, SET_VOLUME}
-use Rattle.player_memory.specs.declared.conditions.TheConstants.{FUNK_TEMPO, SET_TEMPO, WAVE_TABLE, WAVE_COMMAND, SWINGS}
+use Rattle.player_memory.specs.declared.conditions.TheConstants.{TIE_NOTE, VIBRATO, INSTRUMENT_VIBRATO}
+use Rattle.player_memory.specs.declared.conditions.TheConstants.{NOTE_DEPENDENT, SET_AD}
+use Rattle.player_memory.specs.declared.conditions.TheConstants.{SET_SR, SET_WAVE, SET_WAVE_POINTER, PULSE_TABLE}
+use Rattle.player_memory.specs.declared.conditions.TheConstants.{SET_PULSE_POINTER}
+use Rattle.player_memory.specs.declared.conditions.TheConstants.{FILTER_TABLE, SET_FILTER_POINTER, SET_FILTER_CONTROL}
+use Rattle.player_memory.specs.declared.conditions.TheConstants.{SET_CUTOFF, SET_VOLUME}
+use Rattle.player_memory.specs.declared.conditions.TheConstants.{FUNK_TEMPO, SET_TEMPO, WAVE_TABLE, WAVE_COMMAND}
+use Rattle.player_memory.specs.declared.conditions.TheConstants.{SWINGS}
 use Rattle.player_memory.specs.declared.conditions.TheConstants.{CLIMB, DROP, RISE, SINK, FOUND_NOTE}
 use Rattle.player_memory.specs.declared.conditions.TheConstants.{ROW_TONE, ROW_SLIDE, ROW_ONCE, ROW_COMMAND, FIRST_MASK}
-use Rattle.player_memory.specs.declared.conditions.TheConstants.{HELD_NOTE, LEGATO, NO_HARD_RESTART, SPECIAL_ROW, WAVE_DELAY}
-use Rattle.player_memory.specs.declared.conditions.TheConstants.{GATE_NOTE, NOTE_VIBRATO, VIBRATO_DELAY, NOTE_PULSE, NOTE_FILTER}
-use Rattle.player_memory.specs.declared.conditions.TheConstants.{VOICE_TEMPO, COMMON_TEMPO, FUNK_TURNS, FUNK_CHOICE, EFFECTS, FILTER_USED}
-use Rattle.player_text.specs.declared.commands.TheConstants.{AD_SET, CUTOFF_SET, FILTER_CONTROL_SET, FILTER_POINTER_SET, FUNK_CHOSEN}
+use Rattle.player_memory.specs.declared.conditions.TheConstants.{HELD_NOTE, LEGATO, NO_HARD_RESTART, SPECIAL_ROW}
+use Rattle.player_memory.specs.declared.conditions.TheConstants.{WAVE_DELAY}
+use Rattle.player_memory.specs.declared.conditions.TheConstants.{GATE_NOTE, NOTE_VIBRATO, VIBRATO_DELAY, NOTE_PULSE}
+use Rattle.player_memory.specs.declared.conditions.TheConstants.{NOTE_FILTER}
+use Rattle.player_memory.specs.declared.conditions.TheConstants.{VOICE_TEMPO, COMMON_TEMPO, FUNK_TURNS, FUNK_CHOICE}
+use Rattle.player_memory.specs.declared.conditions.TheConstants.{EFFECTS, FILTER_USED}
+use Rattle.player_text.specs.declared.commands.TheConstants.{AD_SET, CUTOFF_SET, FILTER_CONTROL_SET}
+use Rattle.player_text.specs.declared.commands.TheConstants.{FILTER_POINTER_SET, FUNK_CHOSEN}
 use Rattle.player_text.specs.declared.commands.TheConstants.{FUNK_SET, PULSE_POINTER_SET, SR_SET, TEMPO_SET, VOLUME_SET}
 use Rattle.player_text.specs.declared.commands.TheConstants.{WAVE_POINTER_SET, WAVE_SET}
 use Rattle.player_text.specs.declared.effect.TheConstants.{EFFECT_BEGUN}

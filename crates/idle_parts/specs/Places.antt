@@ -1,11 +1,13 @@
 -- How the parts that no clear state comes to are come to. This is the project's own player.
-use Rattle.std.specs.Prelude.{◌≡◌, ◌≢◌, ℕ, ◌<◌, ◌≤◌, ◌==◌, if◌then◌else◌, Bool, true, false, ◌&&◌, ◌||◌, List, [], ◌∷◌, ◌++◌, map}
+use Rattle.std.specs.Prelude.{◌≡◌, ◌≢◌, ℕ, ◌<◌, ◌≤◌, ◌==◌, if◌then◌else◌, Bool, true, false, ◌&&◌, ◌||◌, List, []}
+use Rattle.std.specs.Prelude.{◌∷◌, ◌++◌, map}
 use Rattle.scopes.specs.Desk.{Desk, Layout}
 use Rattle.scopes.specs.Trees.{Tree, ThenTree, ScopeTree, LeaveTree, LeaveIfTree, LoopTree, AgainTree, WhenTree}
 use Rattle.scopes.specs.Trees.{ChooseTree, NeverTree, tree_of}
 use Rattle.scopes.specs.Meaning.{Left, each_one, ran}
 use Rattle.player_memory.specs.declared.conditions.TheConstants.{PORTA_UP, PORTA_DOWN, TONE_PORTA, TIE_NOTE}
-use Rattle.player_memory.specs.declared.conditions.TheConstants.{NOTE_DEPENDENT, SWINGS, WAVE_TABLE, WAVE_COMMAND, EFFECTS}
+use Rattle.player_memory.specs.declared.conditions.TheConstants.{NOTE_DEPENDENT, SWINGS, WAVE_TABLE, WAVE_COMMAND}
+use Rattle.player_memory.specs.declared.conditions.TheConstants.{EFFECTS}
 use Rattle.player_text.specs.declared.joints.TheConstants.{UP, DOWN, RISES, FALLS, FOUND, RUNNING, COMMANDED}
 use Rattle.player_text.specs.declared.slide.TheConstants.{PORTA_STEP}
 use Rattle.player_text.specs.Texts.{voice_tree}
@@ -55,9 +57,9 @@ may_end NeverTree = false
 may_end (ChooseTree condition this other) = may_end this || may_end other
 may_end tree = true
 
--- What moves the frequency up or down, and what finds the note, is left to from the lines of the features that ask for it
--- alone, and the commands of the wave table from theirs; the effect step from where an effect may run, and from those
--- commands. What stands in front of the first of each doesn't come to its own end.
+-- What moves the frequency up or down, and what finds the note, is left to from the lines of the features that ask for
+-- it alone, and the commands of the wave table from theirs; the effect step from where an effect may run, and from
+-- those commands. What stands in front of the first of each doesn't come to its own end.
 pub record PartsAreComeTo : Type 0 where
   pub up : leaves UP effect_tree
       ≡ (EFFECTS ∷ SWINGS ∷ NOTE_DEPENDENT ∷ []) ∷ (EFFECTS ∷ PORTA_UP ∷ []) ∷ (EFFECTS ∷ TONE_PORTA ∷ []) ∷ []

@@ -8,10 +8,14 @@ use Rattle.scopes.specs.Trees.{Tree, DoTree, WithTree, NoneTree, ThenTree, Scope
 use Rattle.scopes.specs.Trees.{ChooseTree, NeverTree}
 use Rattle.scopes.specs.Meaning.{Done, Left, each_one, ran}
 use Rattle.player_memory.specs.declared.conditions.TheConstants.{SET_AD, SET_TEMPO, PULSE_TABLE, PORTA_UP, TIE_NOTE}
-use Rattle.player_memory.specs.declared.conditions.TheConstants.{FIRST_MASK, GATE_NOTE, LEGATO, NO_HARD_RESTART, ROW_ONCE}
-use Rattle.player_memory.specs.declared.conditions.TheConstants.{ROW_TONE, SPECIAL_ROW, WAVE_COMMAND, INSTRUMENT_VIBRATO}
-use Rattle.player_memory.specs.declared.conditions.TheConstants.{ROW_COMMAND, EFFECTS, FILTER_USED, SET_VOLUME, WAVE_DELAY, SWINGS}
-use Rattle.player_memory.specs.declared.conditions.TheConstants.{HELD_NOTE, NOTE_VIBRATO, VIBRATO_DELAY, NOTE_PULSE, NOTE_FILTER}
+use Rattle.player_memory.specs.declared.conditions.TheConstants.{FIRST_MASK, GATE_NOTE, LEGATO, NO_HARD_RESTART}
+use Rattle.player_memory.specs.declared.conditions.TheConstants.{ROW_ONCE}
+use Rattle.player_memory.specs.declared.conditions.TheConstants.{ROW_TONE, SPECIAL_ROW, WAVE_COMMAND}
+use Rattle.player_memory.specs.declared.conditions.TheConstants.{INSTRUMENT_VIBRATO}
+use Rattle.player_memory.specs.declared.conditions.TheConstants.{ROW_COMMAND, EFFECTS, FILTER_USED, SET_VOLUME}
+use Rattle.player_memory.specs.declared.conditions.TheConstants.{WAVE_DELAY, SWINGS}
+use Rattle.player_memory.specs.declared.conditions.TheConstants.{HELD_NOTE, NOTE_VIBRATO, VIBRATO_DELAY, NOTE_PULSE}
+use Rattle.player_memory.specs.declared.conditions.TheConstants.{NOTE_FILTER}
 use Rattle.player_memory.specs.declared.conditions.TheConstants.{VOICE_TEMPO, COMMON_TEMPO, FUNK_TURNS, FUNK_CHOICE}
 use Rattle.player_memory.specs.declared.conditions.TheConstants.{SKIP_FIRST}
 use Rattle.player_memory.specs.declared.labels.TheConstants.{AD, NEW_COMMAND, PULSE_TIME, FILTER_TIME, GATE_TIMERS}
@@ -113,12 +117,16 @@ pub record PartsAreWorked : Type 0 where
   pub no_body : bodies 6 small ≡ []
   pub in_front : front 5 small ≡ ThenTree (DoTree Dex) NoneTree
   -- a first waveform of 0 leaves the mask as it is, a keyoff sets it, and a held gate leaves the block
-  pub mask : (layout : Layout) (desk : Desk) → desk.cpu.z ≡ true → ¬ Idles layout (part FIRST_MASK 0 NOTE_BEGUN.now) desk []
-  pub gate : (layout : Layout) (desk : Desk) → desk.cpu.a ≡ 0xBE → ¬ Idles layout (part GATE_NOTE 0 ENTRY_READ.now) desk []
-  pub legato : (layout : Layout) (desk : Desk) → desk.cpu.n ≡ true → ¬ Idles layout (part LEGATO 0 GATE_CLOSED.now) desk []
+  pub mask : (layout : Layout) (desk : Desk) → desk.cpu.z ≡ true →
+      ¬ Idles layout (part FIRST_MASK 0 NOTE_BEGUN.now) desk []
+  pub gate : (layout : Layout) (desk : Desk) → desk.cpu.a ≡ 0xBE →
+      ¬ Idles layout (part GATE_NOTE 0 ENTRY_READ.now) desk []
+  pub legato : (layout : Layout) (desk : Desk) → desk.cpu.n ≡ true →
+      ¬ Idles layout (part LEGATO 0 GATE_CLOSED.now) desk []
   pub no_hard_restart : (layout : Layout) (desk : Desk) → desk.cpu.c ≡ true →
       ¬ Idles layout (part NO_HARD_RESTART 0 GATE_CLOSED.now) desk []
-  pub once : (layout : Layout) (desk : Desk) → desk.cpu.a ≡ 5 → ¬ Idles layout (part ROW_ONCE 0 COMMAND_BEGUN.now) desk []
+  pub once : (layout : Layout) (desk : Desk) → desk.cpu.a ≡ 5 →
+      ¬ Idles layout (part ROW_ONCE 0 COMMAND_BEGUN.now) desk []
   -- a part that isn't there does nothing of its own, and isn't one that idles
   pub none : (layout : Layout) (desk : Desk) → ¬ Idles layout (part PORTA_UP 1 PORTA_STEP.now) desk []
   -- command 3 of a row leaves, where a note is taken and where the gate is closed before one
@@ -141,7 +149,8 @@ pub record PartsAreWorked : Type 0 where
   -- a first waveform from $FE on is a mask: it leaves the waveform as it is
   pub mask_alone : (layout : Layout) (desk : Desk) → desk.cpu.z ≡ false → 0xFE ≤ desk.cpu.a →
       ¬ Idles layout (part FIRST_MASK 0 NOTE_BEGUN.now) desk []
-  -- a delay of one is stored as 0, and another vibrato than 0 changes A, where a note begins and where a row has no command
+  -- a delay of one is stored as 0, and another vibrato than 0 changes A, where a note begins and where a row has no
+  -- command
   pub delay : (layout : Layout) (rows voice : ℕ) (s : Playing) (desk : Desk) →
       HoldsVoice layout rows voice s desk → layout.holds INSTRUMENT_VIBRATO ≡ true → s.voice.vib_delay ≡ 0 →
       IsListed layout rows desk.at DELAYS desk.cpu.y 0 →

@@ -16,7 +16,6 @@ ghost use Rattle.idle_parts.specs.WorkedParts.{PartsAreWorked};
 
 /// Where a memory holds a state that keeps clear of a part, the part's lines come to their own end, and leave each
 /// byte, X, and the registers that are named.
-#[tactic(auto, using(crate::proofs::StepParts::tempos_idle, crate::proofs::StepParts::commands_idle, crate::proofs::StepParts::programs_idle, crate::proofs::LaterParts::effects_idle, crate::proofs::LaterParts::fetches_idle, crate::proofs::FactParts::facts_idle, crate::proofs::LaterParts::filters_idle))]
 pub fn parts_are_idle()
     ensures tempos { TemposIdle }
     ensures commands { CommandsIdle }
@@ -32,7 +31,6 @@ pub fn parts_are_idle()
 {}
 
 /// Which parts there are, and which lines lead to those that no clear state comes to.
-#[tactic(auto, using(crate::proofs::PartList::parts_are_these, crate::proofs::PartPlaces::parts_are_come_to, crate::proofs::PartPlaces::once_is_come_to, crate::proofs::PartPlaces::slides_leave, crate::proofs::FactParts::rows_leave, crate::proofs::FactParts::rows_end))]
 pub fn parts_have_places()
     ensures parts { PartsAreThese }
     ensures leaves { PartsAreComeTo }
@@ -46,7 +44,6 @@ pub fn parts_have_places()
 
 /// What the lines in front of the parts find, from memories that hold a state: that they come to their end there, and
 /// what is in A, Y and the carry then.
-#[tactic(auto, using(crate::proofs::Fronts::fronts_end, crate::proofs::Fronts::stored_is_low, crate::proofs::Fronts::commands_are_found, crate::proofs::Fronts::effects_are_found, crate::proofs::Fronts::notes_are_found, crate::proofs::Fronts::lent_are_found, crate::proofs::Fronts::plays_are_found))]
 pub fn parts_are_met()
     ensures fronts { (layout : Layout) (rows voice : ℕ) (s : Playing) (desk : Desk) →
         HoldsVoice layout rows voice s desk → FrontsEnd layout rows voice s desk }
@@ -67,7 +64,6 @@ pub fn parts_can_be_left_out()
 /// stand for without them; those that store one change nothing else, and a choice's two sides leave the same but what
 /// one of them stores, too; each that reads one stands under its condition, or under another that keeps it; and
 /// whatever a song asks for, that one is held with the other.
-#[tactic(auto, using(crate::proofs::KeptBytes::filter_loads, crate::proofs::KeptStores::stores_idle, crate::proofs::KeptBytes::read_where_kept, crate::proofs::KeptBytes::pairs_are_kept))]
 pub fn bytes_can_be_left_out()
     ensures filter { FilterLoads }
     ensures voice { VoiceLoads }

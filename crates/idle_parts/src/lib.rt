@@ -1,9 +1,9 @@
 //! The player's parts, where a song doesn't use them: their lines do nothing.
 //!
-//! A part is what stands under a condition. Its law: where a memory holds a state that keeps clear of the part, its lines
-//! come to their own end, and leave each byte, X, and the registers that are named. What no clear state comes to stands
-//! behind a scope that is left from the lines of its own features or facts alone. And as a whole, from what a frame plays:
-//! whatever is kept besides what it uses, it plays the same, so what isn't used can be left out. A byte
+//! A part is what stands under a condition. Its law: where a memory holds a state that keeps clear of the part, its
+//! lines come to their own end, and leave each byte, X, and the registers that are named. What no clear state comes to
+//! stands behind a scope that is left from the lines of its own features or facts alone. And as a whole, from what a
+//! frame plays: whatever is kept besides what it uses, it plays the same, so what isn't used can be left out. A byte
 //! that is kept under a condition alone is stored by lines that change nothing else, and read under that condition
 //! alone.
 //!
