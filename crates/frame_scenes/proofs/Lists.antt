@@ -1,5 +1,5 @@
 -- The lists of a packed song, as the steps read them: instruments, the tables of programs and the frequencies of notes.
-use Rattle.std.proofs.Common.{◌≡◌, ℕ, ◌+◌, ◌%◌, ◌<◌, ◌≤◌, Bool, true, false, length, min, nat_le}
+use Rattle.std.proofs.Common.{◌≡◌, ℕ, ◌+◌, ◌%◌, ◌<◌, ◌≤◌, Bool, true, false, length, nat_le}
 use Rattle.std.proofs.Common.{if◌then◌else◌, refl, arith}
 use Rattle.std.proofs.lemmas.Bool.Decides.{nat_tests}
 use Rattle.song_model.specs.declared.tables.TableName.TheVariants.{Wave, Pulse, Filter}
@@ -11,10 +11,12 @@ use Rattle.play_model.proofs.Laws.{song_look_ups}
 use Rattle.asked_numbers.specs.Range.{IsInRange}
 use Rattle.packed_form.specs.declared.packed_songs.PackedSong.{PackedSong}
 use Rattle.packed_form.specs.Unpacked.{unpacked_song}
+use Rattle.song_facts.specs.declared.facts.Fact.TheVariants.{NoteVibrato, VibratoDelay, NotePulse, NoteFilter}
 use Rattle.scopes.specs.Desk.{Layout}
+use Rattle.player_memory.specs.FactLines.{KeepsMarkedAlone}
 use Rattle.player_memory.specs.Forms.{stored_left, stored_right}
 use Rattle.player_memory.specs.SongLists.{SongList, FrequencyLows, FrequencyHighs, Lefts, Rights, Instruments}
-use Rattle.player_memory.specs.SongLists.{first_listed, frequencies_listed, first_number, list_length, HasNumber}
+use Rattle.player_memory.specs.SongLists.{first_number, list_length, HasNumber}
 use Rattle.player_memory.specs.SongLists.{slide_rows, HasSongLists}
 use Rattle.player_memory.specs.Holds.{IsPlayerLayout, look_of}
 use Rattle.pulse_code.specs.PulseBlock.{HasPulseTable}
@@ -34,16 +36,12 @@ pub from_none : (packed : PackedSong) (list : SongList) (number : ℕ) → first
 from_none packed list number first below = record { from = omega (arith, first); to = omega (arith, first, below) }
 
 -- and one of the frequencies of the numbers that the song asks for
-least : (one two : ℕ) → min one two ≤ one
-least one two = grind arith
-
-pub listed_number : (packed : PackedSong) (list : SongList) (n : ℕ) → first_number packed list ≡ first_listed packed →
-    list_length packed list ≡ frequencies_listed packed → IsInRange packed.numbers n → HasNumber packed list n
+pub listed_number : (packed : PackedSong) (list : SongList) (n : ℕ) → first_number packed list ≡ packed.numbers.first →
+    list_length packed list ≡ packed.numbers.count → IsInRange packed.numbers n → HasNumber packed list n
 listed_number packed list n first count inside =
     let from = inside.from in
     let below = inside.below in
-    let l : first_listed packed ≤ packed.numbers.first = least _ _ in
-    record { from = omega (arith, first, from, l); to = omega (arith, first, count, below, l) }
+    record { from = omega (arith, first, from); to = omega (arith, first, count, below) }
 
 -- what is looked up are bytes
 pub looks : (packed : PackedSong) → KeepsLimits (unpacked_song packed) → AreLookUps (look_of packed)
@@ -129,18 +127,18 @@ tones_stand layout packed at laid has = record {
 }
 
 pub instrument_stands : (layout : Layout) (packed : PackedSong) (at : ℕ → ℕ) → HasSongLists layout packed at →
-    KeepsLimits (unpacked_song packed) → (number : ℕ) → IsNumbered packed.instruments number →
-    HasInstrument layout (slide_rows packed) at (look_of packed) number
-instrument_stands layout packed at has limits number is = record {
-  ad = has.lists (Instruments 0) number (omega arith) (numbered 0);
-  sr = has.lists (Instruments 1) number (omega arith) (numbered 1);
-  wave = has.lists (Instruments 2) number (omega arith) (numbered 2);
-  pulse = has.lists (Instruments 3) number (omega arith) (numbered 3);
-  filter = has.lists (Instruments 4) number (omega arith) (numbered 4);
-  vibrato = has.lists (Instruments 5) number (omega arith) (numbered 5);
-  delay = has.lists (Instruments 6) number (omega arith) (numbered 6);
-  gate_timer = has.lists (Instruments 7) number (omega arith) (numbered 7);
-  first_wave = has.lists (Instruments 8) number (omega arith) (numbered 8);
+    KeepsMarkedAlone layout packed.facts → KeepsLimits (unpacked_song packed) → (number : ℕ) →
+    IsNumbered packed.instruments number → HasInstrument layout (slide_rows packed) at (look_of packed) number
+instrument_stands layout packed at has alone limits number is = record {
+  ad = has.lists (Instruments 0) number refl (numbered 0);
+  sr = has.lists (Instruments 1) number refl (numbered 1);
+  wave = has.lists (Instruments 2) number refl (numbered 2);
+  pulse = λ kept. has.lists (Instruments 3) number (alone NotePulse kept) (numbered 3);
+  filter = λ kept. has.lists (Instruments 4) number (alone NoteFilter kept) (numbered 4);
+  vibrato = λ kept. has.lists (Instruments 5) number (alone NoteVibrato kept) (numbered 5);
+  delay = λ kept. has.lists (Instruments 6) number (alone VibratoDelay kept) (numbered 6);
+  gate_timer = has.lists (Instruments 7) number refl (numbered 7);
+  first_wave = has.lists (Instruments 8) number refl (numbered 8);
   gate_timer_byte = ((looks packed limits).instrument number).gate_timer;
 }
   where

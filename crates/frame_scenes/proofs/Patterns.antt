@@ -150,7 +150,7 @@ rows_stand layout packed song o k voice x at s turn fine = record {
       pattern_stands layout packed song o k x at (played order n).pattern scene
       (play_stored packed song order n scene.stands is.played is.endless);
   timer =
-      scene.has.lists (Instruments 7) _ (omega arith)
+      scene.has.lists (Instruments 7) _ refl
       (from_one packed (Instruments 7) _ refl numbered.first numbered.last);
   timer_byte = ((looks packed scene.stands.packed_song.limits).instrument _).gate_timer;
   tick = fine.range.voice.tick;

@@ -12,7 +12,7 @@ use Rattle.packed_form.specs.declared.packed_songs.PackedSong.{PackedSong}
 use Rattle.packed_form.specs.Unpacked.{unpacked_song, packed_state}
 use Rattle.packed_form.specs.StandsFor.{StandsFor}
 use Rattle.scopes.specs.Desk.{Layout}
-use Rattle.player_memory.specs.FactLines.{KeepsMarked, KeepsShared}
+use Rattle.player_memory.specs.FactLines.{KeepsMarked, KeepsMarkedAlone, KeepsShared}
 use Rattle.player_memory.specs.SongLists.{HasSongLists}
 use Rattle.player_memory.specs.Holds.{IsPlayerLayout}
 use Rattle.slide_code.specs.SlideBlock.{KeepsCommon}
@@ -25,31 +25,35 @@ use Rattle.frame_scenes.proofs.FactsKept.{facts_kept}
 pub packed_scene : (layout : Layout) (packed : PackedSong) (song : Song) (o : Options) (k i : ℕ) (at : ℕ → ℕ) →
     StandsFor packed song → KeepsPatternLimits packed → IsPlayerLayout layout packed → HasSongLists layout packed at →
     ((feature : Feature) → IsBitSet packed.features.0 (bit_of feature) → layout.holds (bit_of feature) ≡ true) →
-    KeepsMarked layout packed.facts → KeepsShared layout → KeepsOptions layout o → KeepsCommon layout →
-    k < length packed.subtunes → IsSpeed o.speed → Scene layout packed song o k (packed_state packed k o i) at
-packed_scene layout packed song o k i at stands short laid has kept facts shared options common below speed = record {
-  stands = stands;
-  short = short;
-  laid = laid;
-  has = has;
-  used = λ feature uses.
-      let plays = stands.plays o k speed (subst (λ n. k < n) stands.subtunes below) in
-      kept feature ((stands.features.each feature).1 (plays.uses i feature uses));
-  facts = facts_kept layout packed song stands facts;
-  shared = shared;
-  options = options;
-  common = common;
-  below = below;
-  safe =
-      states_are_safe_lem o (unpacked_song packed) k i speed stands.packed_song.limits stands.complete.playable
-      (subtunes_play packed song k stands below);
-  notes =
-      states_keep_notes_lem o (unpacked_song packed) k i speed stands.packed_song.limits stands.complete.playable
-      (subtunes_play packed song k stands below);
-  range = (song_ranges_lem o (unpacked_song packed) speed stands.packed_song.limits).state k i;
-}
+    KeepsMarked layout packed.facts → KeepsMarkedAlone layout packed.facts → KeepsShared layout →
+    KeepsOptions layout o → KeepsCommon layout → k < length packed.subtunes → IsSpeed o.speed →
+    Scene layout packed song o k (packed_state packed k o i) at
+packed_scene layout packed song o k i at stands short laid has kept facts alone shared options common below speed =
+    record {
+      stands = stands;
+      short = short;
+      laid = laid;
+      has = has;
+      used = λ feature uses.
+          let plays = stands.plays o k speed (subst (λ n. k < n) stands.subtunes below) in
+          kept feature ((stands.features.each feature).1 (plays.uses i feature uses));
+      facts = facts_kept layout packed song stands facts;
+      alone = alone;
+      shared = shared;
+      options = options;
+      common = common;
+      below = below;
+      safe =
+          states_are_safe_lem o (unpacked_song packed) k i speed stands.packed_song.limits stands.complete.playable
+          (subtunes_play packed song k stands below);
+      notes =
+          states_keep_notes_lem o (unpacked_song packed) k i speed stands.packed_song.limits stands.complete.playable
+          (subtunes_play packed song k stands below);
+      range = (song_ranges_lem o (unpacked_song packed) speed stands.packed_song.limits).state k i;
+    }
 
 pub packed_frames_are_ready : PackedFramesAreReady
-packed_frames_are_ready layout packed song o k i at stands short laid has kept facts shared options common below speed =
+packed_frames_are_ready layout packed song o k i at stands short laid has kept facts alone shared options common below
+    speed =
     frames_are_ready layout packed song o k (packed_state packed k o i) at
-    (packed_scene layout packed song o k i at stands short laid has kept facts shared options common below speed)
+    (packed_scene layout packed song o k i at stands short laid has kept facts alone shared options common below speed)

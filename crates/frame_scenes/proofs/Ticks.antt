@@ -37,7 +37,7 @@ pub ticks_stand : (layout : Layout) (packed : PackedSong) (song : Song) (o : Opt
 ticks_stand layout packed song o k x at scene =
     let speeds = speeds_stand layout packed at scene.has scene.stands.packed_song.limits in record {
       instrument = λ number least most.
-          instrument_stands layout packed at scene.has scene.stands.packed_song.limits number
+          instrument_stands layout packed at scene.has scene.alone scene.stands.packed_song.limits number
           (record { first = least; last = most });
       speed = record { few = speeds.few; each = λ number least most. (speeds.each number most).sides };
     }

@@ -46,6 +46,7 @@ none_are_scenes layout packed song o k x at = record {
       other frequency.is;
   used = λ some out scene. true≢false (sym (scene.used FilterTable some) ∙ out);
   facts = λ has out scene. true≢false (sym (scene.facts GateNote has) ∙ out);
+  alone = λ none on scene. true≢false (sym (scene.alone GateNote on) ∙ none);
   shared = λ on out scene. true≢false (sym (scene.shared.once on) ∙ out);
   options = λ on out scene. true≢false (sym on ∙ (sym scene.options.pulse ∙ out));
   common = λ on out scene. true≢false (sym (scene.common.rise (rw on refl)) ∙ out);

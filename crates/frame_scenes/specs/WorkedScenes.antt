@@ -27,9 +27,9 @@ pub record PatternLimitsAreWorked (packed : PackedSong) : Type 0 where
 -- It is no scene where the song plays more subtunes than the packed song has, or fewer; where a packed pattern has 257
 -- bytes; where the pointer stands at the processor's port; where the frequency of a number that the song asks for isn't
 -- in its list; where the filter has a program, or the pulse step is to be left out, or a frequency is slid up, or an
--- orderlist's pattern has a keyoff, or rows have a command, and the lines for that aren't kept; behind the last subtune;
--- where a note sounds that no song comes to, or a voice's last number is none of this song; and where a frequency is no
--- word.
+-- orderlist's pattern has a keyoff, or rows have a command, and the lines for that aren't kept; where those for a
+-- keyoff are, and the song has none; behind the last subtune; where a note sounds that no song comes to, or a voice's
+-- last number is none of this song; and where a frequency is no word.
 pub record NoScenesAreWorked (layout : Layout) (packed : PackedSong) (song : Song) (o : Options) (k : ℕ)
     (x : FrameState) (at : ℕ → ℕ) : Type 0 where
   pub stands : length packed.subtunes ≢ length (playable_subtunes song) → ¬ Scene layout packed song o k x at
@@ -40,6 +40,7 @@ pub record NoScenesAreWorked (layout : Layout) (packed : PackedSong) (song : Son
   pub used : x.common.filter_ptr ≢ 0 → layout.holds FILTER_TABLE ≡ false → ¬ Scene layout packed song o k x at
   pub facts : HasFact (unpacked_song packed) GateNote → layout.holds GATE_NOTE ≡ false →
       ¬ Scene layout packed song o k x at
+  pub alone : packed.facts.gate_note ≡ false → layout.holds GATE_NOTE ≡ true → ¬ Scene layout packed song o k x at
   pub shared : layout.holds ROW_ONCE ≡ true → layout.holds ROW_COMMAND ≡ false → ¬ Scene layout packed song o k x at
   pub options : o.skip_pulse ≡ true → layout.holds SKIP_PULSE ≡ false → ¬ Scene layout packed song o k x at
   pub common : layout.holds PORTA_UP ≡ true → layout.holds RISE ≡ false → ¬ Scene layout packed song o k x at

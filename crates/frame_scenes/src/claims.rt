@@ -5,10 +5,11 @@ ghost use Rattle.frame_scenes.specs.FrameScenes.{FramesAreReady, PackedFramesAre
 ghost use Rattle.frame_scenes.specs.WorkedScenes.{NoneAreScenes, PatternLimitsAreWorked};
 
 /// Where a packed song stands for a song, its lists stand in memory, and the lines are kept of what the frame after a
-/// safe state uses, the filter and each voice have what their steps read, and are ready for them.
+/// safe state uses and of the packed song's facts, and of no other facts, the filter and each voice have what their
+/// steps read, and are ready for them.
 ///
-/// So is each frame of a packed subtune from its start on, where the lines of all of the packed song's features are
-/// kept.
+/// So is each frame of a packed subtune from its start on, where the lines of all of the packed song's features and
+/// facts are kept, and of no other facts.
 pub fn frames_are_ready()
     ensures ready { FramesAreReady }
     ensures packed { PackedFramesAreReady }

@@ -2,7 +2,8 @@
 //! song.
 //!
 //! Its contract: where a packed song stands for a song, its lists stand in memory, and the lines are kept of what the
-//! frame after a safe state uses, the filter and each voice have what their steps read, and are ready for them.
+//! frame after a safe state uses and of the packed song's facts, and of no other facts, the filter and each voice have
+//! what their steps read, and are ready for them.
 //!
 //! It stands on `frame_code` for what is asked, on `safe_states` for which states a song comes to, and on `packed_form`
 //! for what a packed song has.

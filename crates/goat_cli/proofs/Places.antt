@@ -8,7 +8,8 @@ use Rattle.packed_form.specs.declared.packed_songs.PackedSong.{PackedSong}
 use Rattle.packing_rules.specs.SongSizes.{packed_size}
 use Rattle.kept_lines.specs.Asked.{asked_by}
 use Rattle.image_parts.specs.CodeParts.{code_length}
-use Rattle.image_parts.specs.Lengths.{slide_bytes, frequency_bytes, image_length}
+use Rattle.image_parts.specs.Lengths.{slide_bytes, read_bytes, read_of, frequency_bytes, image_length}
+use Rattle.song_costs.specs.Kinds.{read_data}
 use Rattle.faithful.proofs.Laws.{always_is_faithful}
 use Rattle.player_build.specs.declared.image.Image.{Image}
 use Rattle.player_build.specs.Room.{IsTooLarge}
@@ -39,11 +40,17 @@ module _ (packed : PackedSong) (song : Song) (o : Options) (packs : PacksSong pa
     numbers = packed.numbers;
     are_numbers = packs.stands.numbers;
     count_is = is
-        ∙ ap (λ size. size + slide_bytes (asked_by packed) (length packed.speed) + frequency_bytes packed.numbers size
-        + code_length (asked_by packed) o) packs.size
-        ∙ ap (λ rows. packed_size song packs.used + slide_bytes (asked_by packed) rows
-        + frequency_bytes packed.numbers (packed_size song packs.used) + code_length (asked_by packed) o) packs.speeds;
+        ∙ ap (λ read. read + slide_bytes (asked_by packed) (length packed.speed) + frequency_bytes packed.numbers read
+        + code_length (asked_by packed) o) read_is
+        ∙ ap (λ rows. read_data song packs.used (asked_by packed) + slide_bytes (asked_by packed) rows
+        + frequency_bytes packed.numbers (read_data song packs.used (asked_by packed))
+        + code_length (asked_by packed) o) packs.speeds;
   }
+    where
+      read_is : read_of packed ≡ read_data song packs.used (asked_by packed)
+      read_is =
+          ap (λ size. read_bytes (asked_by packed) (length packed.instruments) size) packs.size
+          ∙ ap (λ count. read_bytes (asked_by packed) count (packed_size song packs.used)) packs.instruments
 
   module _ (files : Files) (name : List ℕ) (address : ℕ) (holds : HoldsSong files name song) where
     pub has_room : (built : Image) → IsBuild packed built.place o built → built.place.address ≡ address →

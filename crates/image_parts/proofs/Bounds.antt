@@ -1,5 +1,5 @@
 -- Bounds of the parts and of an image.
-use Rattle.std.proofs.Common.{◌≡◌, ℕ, ◌+◌, ◌-◌, ◌*◌, ◌<◌, ◌≤◌, min, nat_le, Bool, true}
+use Rattle.std.proofs.Common.{◌≡◌, ℕ, ◌+◌, ◌-◌, ◌*◌, ◌<◌, ◌≤◌, nat_le, Bool, true}
 use Rattle.std.proofs.Common.{List, ◌++◌, replicate, refl, arith, inl, inr, mul-le-mul_right}
 use Rattle.std.proofs.lemmas.Bool.{cases_lt, cases_Bool, agree_below_at, leb-true, ne_eqb}
 use Rattle.std.proofs.lemmas.List.Folds.{sum_by-replicate}
@@ -25,9 +25,10 @@ use Rattle.kept_lines.proofs.Laws.{no_more}
 use Rattle.variable_places.specs.Places.{variable_count}
 use Rattle.variable_places.proofs.Laws.{counts_are_few}
 use Rattle.image_parts.specs.CodeParts.{always, code_parts}
-use Rattle.image_parts.specs.Lengths.{slide_bytes, frequency_bytes}
+use Rattle.image_parts.specs.Lengths.{slide_bytes, read_of, frequency_bytes}
 use Rattle.image_parts.specs.PartLaws.{CodeIsShort, PartsAreShort, CodeIsBounded, ImagesAreBounded}
 use Rattle.image_parts.proofs.Counts.{one_if}
+use Rattle.image_parts.proofs.ReadBytes.{read_most}
 use Rattle.image_parts.proofs.Sums.{around, code_takes_its_parts, unkept_parts_have_none}
 
 -- ---- parts
@@ -138,7 +139,7 @@ code_is_short asked o =
 frequencies_most : (range : NumberRange) (size : ℕ) → range.first + range.count ≤ 129 → frequency_bytes range size ≤ 258
 frequencies_most range size few = most range.first range.count (2 + size) few
   where
-    most : (first count front : ℕ) → first + count ≤ 129 → 2 * (first + count - min first front) ≤ 258
+    most : (first count front : ℕ) → first + count ≤ 129 → first - front + 2 * count ≤ 258
     most first count front few = omega (arith, few)
 
 pub code_is_bounded : CodeIsBounded
@@ -152,10 +153,10 @@ code_is_bounded asked features rows size range o few low =
 
 pub images_are_bounded : ImagesAreBounded
 images_are_bounded packed o few =
-    all _ _ _ _ _
-    (code_is_bounded (asked_by packed) packed.features.0 _ (packed_song_size packed) packed.numbers o few
+    all (packed_song_size packed) (read_of packed) _ _ _ _ (read_most packed)
+    (code_is_bounded (asked_by packed) packed.features.0 _ (read_of packed) packed.numbers o few
     packed.numbers_within)
   where
-    all : (packed slides frequencies code bound : ℕ) → slides + frequencies + code ≤ bound →
-        packed + slides + frequencies + code ≤ packed + bound
-    all packed slides frequencies code bound h = omega (arith, h)
+    all : (packed read slides frequencies code bound : ℕ) → read ≤ packed → slides + frequencies + code ≤ bound →
+        read + slides + frequencies + code ≤ packed + bound
+    all packed read slides frequencies code bound less h = omega (arith, less, h)

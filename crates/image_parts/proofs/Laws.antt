@@ -8,3 +8,5 @@ pub use Rattle.image_parts.proofs.WorkedLengths.{notes_are_measured}
 pub use Rattle.image_parts.proofs.Bounds.{code_is_short, code_is_bounded, images_are_bounded}
 -- and so is what each image has
 pub use Rattle.image_parts.proofs.Rest.{rest_is_exact, rest_is_bounded}
+-- what is read of a packed song, and what stands in front of its frequencies
+pub use Rattle.image_parts.proofs.ReadBytes.{unread_most, unread_is, front_is, read_is, read_most, speeds_are_read}

@@ -5,6 +5,8 @@ mod Counts
 mod Sums
 mod Around
 mod Bounds
+-- What is read of a packed song.
+mod ReadBytes
 -- What each image has.
 mod Settled
 mod Rest

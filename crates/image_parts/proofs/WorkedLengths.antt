@@ -7,19 +7,21 @@ use Rattle.song_facts.specs.declared.facts.Facts.{Facts}
 use Rattle.song_facts.specs.Facts.{no_facts}
 use Rattle.asked_numbers.specs.declared.range.NumberRange.{NumberRange}
 use Rattle.packed_form.specs.declared.packed_songs.PackedSong.{PackedSong}
-use Rattle.packed_form.specs.Sizes.{packed_song_size}
 use Rattle.kept_lines.specs.Asked.{asked, asked_by}
 use Rattle.kept_lines.specs.KeptLines.{kept_set}
 use Rattle.variable_places.specs.Places.{voice_rows, shared_rows, asks, has_byte, voice_labels, other_labels}
 use Rattle.variable_places.specs.Places.{free_places, funk_place, variable_count}
 use Rattle.image_parts.specs.CodeParts.{code_length}
-use Rattle.image_parts.specs.Lengths.{slide_bytes, frequency_bytes, image_length}
+use Rattle.image_parts.specs.Lengths.{slide_bytes, read_of, frequency_bytes, image_length}
 use Rattle.image_parts.specs.WorkedLengths.{IsPackedSilence, IsPlayedNote}
 use Rattle.image_parts.specs.WorkedLengths.{PartsAreMeasured, FrequenciesAreMeasured, SilencesAreMeasured}
-use Rattle.image_parts.specs.WorkedLengths.{NotesAreMeasured}
+use Rattle.image_parts.specs.WorkedLengths.{NotesAreMeasured, ReadBytesAreMeasured}
 
 pub frequencies_are_measured : FrequenciesAreMeasured
-frequencies_are_measured = record { long = refl; just_long = refl; short = refl; all = refl; none = refl }
+frequencies_are_measured = record { long = refl; just_long = refl; short = refl; all = refl; last = refl; none = refl }
+
+pub read_bytes_are_measured : ReadBytesAreMeasured
+read_bytes_are_measured = record { none = refl; each = refl; all = refl; others = refl }
 
 pub parts_are_measured : PartsAreMeasured
 unfolding kept_set voice_rows shared_rows asks has_byte voice_labels other_labels free_places funk_place variable_count
@@ -103,44 +105,46 @@ note_with_all : code_length (0x402000 + 2 ^ 41 + 2 ^ 44) (all_left_out 4) ≡ 71
 unfolding kept_set voice_rows shared_rows asks has_byte voice_labels other_labels free_places funk_place variable_count
 note_with_all = refl
 
--- an image has these bytes, those of the packed song, those of its slides, and those of its frequencies
+-- an image has these bytes, those that are read of the packed song, those of its slides, and those of its frequencies
 all_of : (packed : PackedSong) (o : Options) (set own slides frequencies code : ℕ) → asked_by packed ≡ set →
-    packed_song_size packed ≡ own → slide_bytes set (length packed.speed) ≡ slides →
+    read_of packed ≡ own → slide_bytes set (length packed.speed) ≡ slides →
     frequency_bytes packed.numbers own ≡ frequencies → code_length set o ≡ code →
     image_length packed o ≡ own + slides + frequencies + code
-all_of packed o set own slides frequencies code asks owns slide listed is = rw (asks, owns, slide, listed, is) refl
+all_of packed o set own slides frequencies code asks owns slide listed is = rw (owns, asks, slide, listed, is) refl
 
-silence_size : (packed : PackedSong) → IsPackedSilence packed → packed_song_size packed ≡ 28
-silence_size packed is = rw (is.subtunes, is.patterns, is.instruments, is.wave, is.pulse, is.filter, is.speed) refl
+silence_size : (packed : PackedSong) → IsPackedSilence packed → read_of packed ≡ 24
+silence_size packed is =
+    rw (silence_asks packed is, is.subtunes, is.patterns, is.instruments, is.wave, is.pulse, is.filter, is.speed) refl
 
-note_size : (packed : PackedSong) → IsPlayedNote packed → packed_song_size packed ≡ 42
+note_size : (packed : PackedSong) → IsPlayedNote packed → read_of packed ≡ 39
 note_size packed is =
-    let l = is.lists in rw (l.subtunes, l.patterns, l.instruments, l.wave, l.pulse, l.filter, l.speed) refl
+    let l = is.lists in
+    rw (note_asks packed is, l.subtunes, l.patterns, l.instruments, l.wave, l.pulse, l.filter, l.speed) refl
 
-silence_lists : (packed : PackedSong) → IsPackedSilence packed → frequency_bytes packed.numbers 28 ≡ 0
-silence_lists packed is = ap (λ (range : NumberRange). frequency_bytes range 28) is.numbers
+silence_lists : (packed : PackedSong) → IsPackedSilence packed → frequency_bytes packed.numbers 24 ≡ 0
+silence_lists packed is = ap (λ (range : NumberRange). frequency_bytes range 24) is.numbers
 
-note_lists : (packed : PackedSong) → IsPlayedNote packed → frequency_bytes packed.numbers 42 ≡ 10
-note_lists packed is = ap (λ (range : NumberRange). frequency_bytes range 42) is.numbers
+note_lists : (packed : PackedSong) → IsPlayedNote packed → frequency_bytes packed.numbers 39 ≡ 9
+note_lists packed is = ap (λ (range : NumberRange). frequency_bytes range 39) is.numbers
 
 pub silences_are_measured : SilencesAreMeasured
 silences_are_measured packed is = record {
   with_none =
-      all_of packed no_options (2 ^ 37) 28 0 0 489 (silence_asks packed is) (silence_size packed is) refl
+      all_of packed no_options (2 ^ 37) 24 0 0 489 (silence_asks packed is) (silence_size packed is) refl
       (silence_lists packed is) silence_with_none;
   with_all =
-      all_of packed (all_left_out 4) (2 ^ 37) 28 0 0 545 (silence_asks packed is) (silence_size packed is) refl
+      all_of packed (all_left_out 4) (2 ^ 37) 24 0 0 545 (silence_asks packed is) (silence_size packed is) refl
       (silence_lists packed is) silence_with_all;
 }
 
 pub notes_are_measured : NotesAreMeasured
 notes_are_measured packed is = record {
   with_none =
-      all_of packed no_options (0x402000 + 2 ^ 41 + 2 ^ 44) 42 0 10 659 (note_asks packed is) (note_size packed is)
+      all_of packed no_options (0x402000 + 2 ^ 41 + 2 ^ 44) 39 0 9 659 (note_asks packed is) (note_size packed is)
       refl
       (note_lists packed is) note_with_none;
   with_all =
-      all_of packed (all_left_out 4) (0x402000 + 2 ^ 41 + 2 ^ 44) 42 0 10 715 (note_asks packed is)
+      all_of packed (all_left_out 4) (0x402000 + 2 ^ 41 + 2 ^ 44) 39 0 9 715 (note_asks packed is)
       (note_size packed is) refl
       (note_lists packed is) note_with_all;
 }

@@ -1,11 +1,12 @@
 -- How many bytes an image takes. This is the project's own player.
-use Rattle.std.specs.Prelude.{ℕ, ◌+◌, ◌*◌, if◌then◌else◌, List, length}
+use Rattle.std.specs.Prelude.{ℕ, ◌+◌, ◌-◌, ◌*◌, if◌then◌else◌, List, length}
 use Rattle.play_model.specs.declared.options.Options.{Options}
 use Rattle.asked_numbers.specs.declared.range.NumberRange.{NumberRange}
 use Rattle.packed_form.specs.declared.packed_songs.PackedSong.{PackedSong}
 use Rattle.packed_form.specs.Sizes.{packed_song_size}
-use Rattle.player_memory.specs.declared.conditions.TheConstants.{NOTE_DEPENDENT}
-use Rattle.player_memory.specs.ListedNumbers.{count_in}
+use Rattle.player_memory.specs.declared.conditions.TheConstants.{NOTE_DEPENDENT, NOTE_PULSE, NOTE_FILTER}
+use Rattle.player_memory.specs.declared.conditions.TheConstants.{NOTE_VIBRATO, VIBRATO_DELAY}
+use Rattle.player_memory.specs.Gaps.{gap_in}
 use Rattle.kept_lines.specs.Asked.{is_in, asked_by}
 use Rattle.image_parts.specs.CodeParts.{zero_bytes, length_of, code_parts}
 
@@ -14,16 +15,38 @@ use Rattle.image_parts.specs.CodeParts.{zero_bytes, length_of, code_parts}
 abbrev pub slide_bytes : ℕ → ℕ → ℕ
 slide_bytes asked rows = if is_in asked NOTE_DEPENDENT then 3 * (rows + 1) else 0
 
--- the frequencies that are listed have two bytes each; in front of them stand the zeros and the packed song, of so many
--- bytes
-abbrev pub frequency_bytes : NumberRange → ℕ → ℕ
-frequency_bytes range size = 2 * count_in range (zero_bytes + size)
+-- Of so many instruments these bytes aren't read, and stand nowhere: of each of them the pulse program, the filter
+-- program, the vibrato and its delay, where no instrument that the song uses has one.
+abbrev pub unread_of : ℕ → ℕ → ℕ → ℕ
+unread_of asked condition instruments = if is_in asked condition then 0 else instruments
 
--- the bytes of the packed song, of its slides, of its frequencies, and of the code with the zeros, whose parts are these
+abbrev pub unread_bytes : ℕ → ℕ → ℕ
+unread_bytes asked instruments =
+    unread_of asked NOTE_PULSE instruments + unread_of asked NOTE_FILTER instruments
+    + unread_of asked NOTE_VIBRATO instruments + unread_of asked VIBRATO_DELAY instruments
+
+-- what is read of a packed song of so many instruments and bytes
+abbrev pub read_bytes : ℕ → ℕ → ℕ → ℕ
+read_bytes asked instruments size = size - unread_bytes asked instruments
+
+-- The frequencies of a range of numbers have two bytes each. In front of them stand the two zeros, so many bytes that
+-- are read of the packed song, and the zeros that fill the gap.
+abbrev pub frequency_bytes : NumberRange → ℕ → ℕ
+frequency_bytes range read = gap_in range (zero_bytes + read) + 2 * range.count
+
+-- the bytes that are read, those of the slides, those of the frequencies with their gap, and those of the code with the
+-- two zeros
+abbrev pub sum_of_image : (read slides : ℕ) → NumberRange → ℕ → ℕ
+sum_of_image read slides range code = read + slides + frequency_bytes range read + code
+
+-- what is read of a packed song
+abbrev pub read_of : PackedSong → ℕ
+read_of packed = read_bytes (asked_by packed) (length packed.instruments) (packed_song_size packed)
+
+-- so many has the image of a packed song whose code's bytes have these parts
 abbrev pub bytes_of_image : PackedSong → List ℕ → ℕ
 bytes_of_image packed code =
-    packed_song_size packed + slide_bytes (asked_by packed) (length packed.speed)
-    + frequency_bytes packed.numbers (packed_song_size packed) + length_of code
+    sum_of_image (read_of packed) (slide_bytes (asked_by packed) (length packed.speed)) packed.numbers (length_of code)
 
 -- those of the image of a packed song, for options
 abbrev pub image_length : PackedSong → Options → ℕ

@@ -12,10 +12,11 @@ use Rattle.player_memory.specs.declared.conditions.TheConstants.{VIBRATO, WAVE_T
 use Rattle.player_memory.specs.declared.conditions.TheConstants.{FILTER_TABLE, SET_CUTOFF, FILTER_USED, EFFECTS}
 use Rattle.player_memory.specs.declared.conditions.TheConstants.{ROW_SLIDE, ROW_ONCE, LEGATO, NO_HARD_RESTART}
 use Rattle.player_memory.specs.declared.conditions.TheConstants.{WAVE_DELAY, SET_VOLUME}
+use Rattle.player_memory.specs.declared.conditions.TheConstants.{NOTE_PULSE, NOTE_FILTER, NOTE_VIBRATO, VIBRATO_DELAY}
 use Rattle.player_memory.specs.declared.conditions.TheConstants.{ROW_COMMAND, SPECIAL_ROW, HELD_NOTE, SET_TEMPO}
 use Rattle.player_memory.specs.declared.conditions.TheConstants.{VOICE_TEMPO, COMMON_TEMPO, FUNK_TURNS, FUNK_CHOICE}
 use Rattle.image_parts.specs.CodeParts.{always, part_length, code_length}
-use Rattle.image_parts.specs.Lengths.{slide_bytes, frequency_bytes, image_length}
+use Rattle.image_parts.specs.Lengths.{slide_bytes, read_bytes, frequency_bytes, image_length}
 
 -- all features, and all facts
 abbrev pub every_feature : ℕ
@@ -99,14 +100,30 @@ pub record PartsAreMeasured : Type 0 where
 
 -- ---- frequencies
 
--- a song of 100 bytes that asks for the numbers 48 to 50 lists these, and one of 40 the numbers 42 to 50; with 46 bytes
--- and more in front, none but the own numbers are listed
+-- a song of which 100 bytes are read and that asks for the numbers 48 to 50 has two bytes for each; where 40 are read
+-- six zeros fill the gap up to the first of them, and where 46 are and more, none; all numbers are 129
 pub record FrequenciesAreMeasured : Type 0 where
   pub long : frequency_bytes (record { first = 48; count = 3 }) 100 ≡ 6
   pub just_long : frequency_bytes (record { first = 48; count = 3 }) 46 ≡ 6
-  pub short : frequency_bytes (record { first = 48; count = 3 }) 40 ≡ 18
+  pub short : frequency_bytes (record { first = 48; count = 3 }) 40 ≡ 12
   pub all : frequency_bytes (record { first = 0; count = 129 }) 40 ≡ 258
+  pub last : frequency_bytes (record { first = 128; count = 1 }) 0 ≡ 128
   pub none : frequency_bytes (record { first = 0; count = 0 }) 40 ≡ 0
+
+-- ---- instruments
+
+-- of three instruments and a hundred bytes these are read, where the song asks for nothing, for each of four facts
+-- alone, for all four and for all others
+abbrev pub read_with : ℕ → ℕ
+read_with asked = read_bytes asked 3 100
+
+pub record ReadBytesAreMeasured : Type 0 where
+  pub none : read_with 0 ≡ 88
+  pub each : map (λ condition. read_with (2 ^ condition))
+      (NOTE_VIBRATO ∷ VIBRATO_DELAY ∷ NOTE_PULSE ∷ NOTE_FILTER ∷ []) ≡ 91 ∷ 91 ∷ 91 ∷ 91 ∷ []
+  pub all : read_with (every_feature + every_fact) ≡ 100
+  pub others : read_with (every_feature + every_fact - 2 ^ NOTE_VIBRATO - 2 ^ VIBRATO_DELAY - 2 ^ NOTE_PULSE
+      - 2 ^ NOTE_FILTER) ≡ 88
 
 -- ---- a silence
 
@@ -127,20 +144,21 @@ pub record IsPackedSilence (packed : PackedSong) : Type 0 where
   pub facts : packed.facts ≡ record no_facts { first_mask = true }
   pub numbers : packed.numbers ≡ record { first = 0; count = 0 }
 
--- 28 bytes of the packed song, 483 of each player, and 6 for the first waveform; 6, 10 and 40 more where all four
--- options are on, since no command runs that the first would leave out
+-- 24 of the packed song's 28 bytes, since of its instrument nothing but its envelope, its wave program, its gateoff
+-- timer and its first waveform is read, 483 of each player, and 6 for the first waveform; 6, 10 and 40 more where all
+-- four options are on, since no command runs that the first would leave out
 pub record SilenceIsMeasured (packed : PackedSong) : Type 0 where
-  pub with_none : image_length packed no_options ≡ 517
-  pub with_all : image_length packed (all_left_out 4) ≡ 573
+  pub with_none : image_length packed no_options ≡ 513
+  pub with_all : image_length packed (all_left_out 4) ≡ 569
 
 abbrev pub SilencesAreMeasured : Type 0
 SilencesAreMeasured = (packed : PackedSong) → IsPackedSilence packed → SilenceIsMeasured packed
 
 -- ---- a note
 
--- a song of one note, which has a wave and a pulse program, and of a keyoff: 42 bytes, the 483 but the 2 that stand for
--- a width, 18 more of variables, and 45, 90, 12 and 13 of the parts for these and for the instrument's pulse program;
--- and 10 of the frequencies 44 to 48, with 44 bytes in front of them
+-- a song of one note, which has a wave and a pulse program, and of a keyoff: 39 of its 42 bytes, the 483 but the 2 that
+-- stand for a width, 18 more of variables, and 45, 90, 12 and 13 of the parts for these and for the instrument's pulse
+-- program; two of the frequency of number 48, and a gap of seven in front of it, behind 41 bytes
 pub record IsPlayedNote (packed : PackedSong) : Type 0 where
   pub lists : IsPackedNote packed
   pub features : packed.features.0 ≡ 0x402000
@@ -148,8 +166,8 @@ pub record IsPlayedNote (packed : PackedSong) : Type 0 where
   pub numbers : packed.numbers ≡ record { first = 48; count = 1 }
 
 pub record NoteIsMeasured (packed : PackedSong) : Type 0 where
-  pub with_none : image_length packed no_options ≡ 711
-  pub with_all : image_length packed (all_left_out 4) ≡ 767
+  pub with_none : image_length packed no_options ≡ 707
+  pub with_all : image_length packed (all_left_out 4) ≡ 763
 
 abbrev pub NotesAreMeasured : Type 0
 NotesAreMeasured = (packed : PackedSong) → IsPlayedNote packed → NoteIsMeasured packed

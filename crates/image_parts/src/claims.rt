@@ -5,7 +5,7 @@ ghost use Rattle.image_parts.specs.PartLaws.{CodeTakesItsParts, PartsAddUp, Part
 ghost use Rattle.image_parts.specs.PartLaws.{RestIsExact, RestIsBounded, CodeIsShort, CodeIsBounded};
 ghost use Rattle.image_parts.specs.PartLaws.{ImagesAreBounded};
 ghost use Rattle.image_parts.specs.WorkedLengths.{PartsAreMeasured, FrequenciesAreMeasured, SilencesAreMeasured};
-ghost use Rattle.image_parts.specs.WorkedLengths.{NotesAreMeasured};
+ghost use Rattle.image_parts.specs.WorkedLengths.{NotesAreMeasured, ReadBytesAreMeasured};
 
 /// There are as many parts as the code has bytes, and they add up to it; and the lines of the code are those of its
 /// blocks, with the bytes around them that are counted.
@@ -29,10 +29,12 @@ pub fn parts_are_bounded()
 {}
 
 /// How many bytes each part takes where all are kept, and where one feature or fact is asked for alone; how many
-/// bytes the frequencies of some ranges take; and how long the images of two small packed songs are.
+/// bytes the frequencies of some ranges take; how many bytes are read of a packed song; and how long the images of two
+/// small packed songs are.
 pub fn worked_lengths()
     ensures parts { PartsAreMeasured }
     ensures frequencies { FrequenciesAreMeasured }
+    ensures read { ReadBytesAreMeasured }
     ensures silence { SilencesAreMeasured }
     ensures note { NotesAreMeasured }
 {}

@@ -3,14 +3,13 @@
 ghost use Rattle.std.specs.Prelude.{◌≡◌, ◌≤◌, length};
 ghost use Rattle.scope_parts.specs.Parts.{bytes_of};
 ghost use Rattle.image_parts.specs.CodeParts.{length_of, length_of_part};
-ghost use Rattle.packed_form.specs.Sizes.{packed_song_size};
-ghost use Rattle.image_parts.specs.Lengths.{slide_bytes, frequency_bytes, bytes_of_image};
+ghost use Rattle.image_parts.specs.Lengths.{slide_bytes, read_of, frequency_bytes, bytes_of_image};
 
 use crate::parts::ALWAYS;
 use kept_lines::{Conditions, asked_by};
 use packed_form::PackedSong;
 use player_memory::conditions::NOTE_DEPENDENT;
-use player_memory::listed_numbers;
+use player_memory::{gap_size, unread_size};
 
 /// The two zeros that every image has among its lists, for row 0 of the sides of the speed table.
 const ZERO_BYTES: u32 = 2;
@@ -65,22 +64,31 @@ pub fn slide_bytes(asked: Conditions, rows: u32) -> u32
     }
 }
 
-/// The bytes of the frequencies that are listed for a packed song, two of each.
-pub fn frequency_bytes(packed: &PackedSong) -> u32
-    ensures bytes { result ≡ frequency_bytes packed.now.numbers (packed_song_size packed.now) }
-    ensures most { result ≤ 258 }
+/// The bytes of a packed song that the player reads, and that stand in an image: all but those of the fields of
+/// instruments that no line reads.
+pub fn read_size(packed: &PackedSong) -> u32
+    ensures bytes { result ≡ read_of packed.now }
+    ensures most { result ≤ 81039 }
 {
-    2 * u32::from(listed_numbers(packed).count)
+    packed.size() - unread_size(packed)
 }
 
-/// The bytes of the image of a packed song whose code has these parts: those of the packed song, those of its slides and
-/// of its frequencies, and those of the code and the zeros.
+/// The bytes of the frequencies of a packed song, two of each, and of the gap in front of them.
+pub fn frequency_bytes(packed: &PackedSong) -> u32
+    ensures bytes { result ≡ frequency_bytes packed.now.numbers (read_of packed.now) }
+    ensures most { result ≤ 258 }
+{
+    gap_size(packed) + 2 * u32::from(packed.numbers.count)
+}
+
+/// The bytes of the image of a packed song whose code has these parts: those that are read of the packed song, those of
+/// its slides and of its frequencies, and those of the code and the zeros.
 pub fn image_length(packed: &PackedSong, code: &[u8]) -> u32
     requires { length code.now ≤ 65535 }
     ensures { result ≡ bytes_of_image packed.now code.now }
 {
     let rows = packed.speed.as_slice().len() as u32;
-    packed.size()
+    read_size(packed)
         + slide_bytes(asked_by(packed), rows)
         + frequency_bytes(packed)
         + code_length(code)

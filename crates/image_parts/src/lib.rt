@@ -20,5 +20,7 @@ mod lengths;
 mod parts;
 
 pub use base::{ByteList, NoMemory};
-pub use lengths::{code_length, frequency_bytes, image_length, part_length, slide_bytes};
+pub use lengths::{
+    code_length, frequency_bytes, image_length, part_length, read_size, slide_bytes,
+};
 pub use parts::{ALWAYS, code_parts};

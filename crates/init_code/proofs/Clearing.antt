@@ -1,5 +1,5 @@
 -- The loop that clears places in one piece, from the last one back.
-use Rattle.std.proofs.Common.{◌≡◌, ◌≢◌, ◌⊎◌, ℕ, zero, suc, ◌+◌, ◌%◌, ◌<◌, ◌≤◌, false, Some}
+use Rattle.std.proofs.Common.{◌≡◌, ◌≢◌, ℕ, zero, suc, ◌+◌, ◌%◌, ◌<◌, false, Some}
 use Rattle.std.proofs.Common.{inl, inr}
 use Rattle.std.proofs.Common.{below_more, refl, ap, ◌∙◌, nat_le, arith}
 use Rattle.std.proofs.lemmas.Bool.{lt-leb}

@@ -1,5 +1,5 @@
 -- Which songs are packed, and that no other image is refused than a large one.
-use Rattle.std.proofs.Common.{◌≡◌, ℕ, ◌+◌, ◌≤◌, ◌<◌, Bool, List, [], ◌∷◌, length, map, refl, subst, arith}
+use Rattle.std.proofs.Common.{◌≡◌, ℕ, ◌+◌, ◌-◌, ◌≤◌, ◌<◌, Bool, List, [], ◌∷◌, length, map, refl, subst, arith}
 use Rattle.goat_io.specs.Files.{Files}
 use Rattle.std.specs.List.{filter}
 use Rattle.std.proofs.lemmas.List.{length-map}
@@ -20,7 +20,8 @@ use Rattle.packing_rules.specs.SongSizes.{data_size, packed_size}
 use Rattle.packing_rules.proofs.Laws.{packed_size_is_within, first_seen_length, same_sets}
 use Rattle.asked_numbers.proofs.Laws.{ranges_lie_in_the_table}
 use Rattle.image_parts.specs.CodeParts.{code_length}
-use Rattle.image_parts.specs.Lengths.{slide_bytes, frequency_bytes}
+use Rattle.image_parts.specs.Lengths.{slide_bytes, unread_bytes, frequency_bytes}
+use Rattle.song_costs.specs.Kinds.{instrument_count, read_data}
 use Rattle.image_parts.proofs.Laws.{code_is_bounded}
 use Rattle.jobs.specs.Packed.{IsImageLength}
 use Rattle.jobs.specs.Stages.{IsThere, Fits, SpellsSong, CanBePlayed, HasShortPatterns, HasRoomForImage, input_limit}
@@ -53,11 +54,12 @@ few_speeds song used =
 -- so the slides, the frequencies and the code together are within the player's bound
 player_is_bounded : (song : Song) (o : Options) (features : ℕ) {count : ℕ} (is : IsImageLength song o count) →
     slide_bytes is.asked (length (speed_rows song (is.used.pointers Speed)))
-    + frequency_bytes is.numbers (packed_size song is.used) + code_length is.asked o
+    + frequency_bytes is.numbers (read_data song is.used is.asked) + code_length is.asked o
     ≤ code_bound features o
 player_is_bounded song o features is =
-    code_is_bounded is.asked features (length (speed_rows song (is.used.pointers Speed))) (packed_size song is.used)
-    is.numbers o (few_speeds song (is.used.pointers Speed)) (ranges_lie_in_the_table song is.numbers is.are_numbers)
+    code_is_bounded is.asked features (length (speed_rows song (is.used.pointers Speed)))
+    (read_data song is.used is.asked) is.numbers o (few_speeds song (is.used.pointers Speed))
+    (ranges_lie_in_the_table song is.numbers is.are_numbers)
 
 adds : (most bound size slides frequencies code count : ℕ) → size ≤ most → slides + frequencies + code ≤ bound →
     count ≡ size + slides + frequencies + code → count ≤ most + bound
@@ -67,8 +69,13 @@ pub images_are_bounded : ImagesAreBounded
 images_are_bounded song o used features count is are_used are_features =
     subst (λ (u : UsedSets). count ≤ data_size song u + code_bound features o)
     (same_sets song is.used used is.are_used are_used)
-    (adds (data_size song is.used) (code_bound features o) (packed_size song is.used) _ _ (code_length is.asked o) count
-    (packed_size_is_within song is.used) (player_is_bounded song o features is) is.count_is)
+    (adds (data_size song is.used) (code_bound features o) (read_data song is.used is.asked) _ _
+    (code_length is.asked o) count
+    (less (packed_size song is.used) (unread_bytes is.asked (instrument_count is.used)) (data_size song is.used)
+    (packed_size_is_within song is.used)) (player_is_bounded song o features is) is.count_is)
+  where
+    less : (size unread most : ℕ) → size ≤ most → size - unread ≤ most
+    less size unread most within = omega (arith, within)
 
 pub only_large_images : OnlyLargeImagesAreRefused
 only_large_images files name address o lines song used features ends holds are_used are_features =

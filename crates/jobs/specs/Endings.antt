@@ -9,6 +9,7 @@ use Rattle.packed_form.specs.Sizes.{packed_song_size}
 use Rattle.packing_rules.specs.UsedSets.{UsedSets, AreUsedSets}
 use Rattle.packing_rules.specs.Renumbering.{speed_rows}
 use Rattle.packing_rules.specs.SongSizes.{packed_size}
+use Rattle.song_costs.specs.Kinds.{instrument_count}
 use Rattle.packed_form.specs.StandsFor.{StandsFor}
 use Rattle.gts5.specs.Spells.{Spells}
 use Rattle.edit_script.specs.Edited.{FailsAt}
@@ -89,12 +90,14 @@ pub data EditFails (text : List ℕ) (song : Song) (last : Last) : Type 0 where
       EditFails text song last
   wanting : last ≡ Wants → EditFails text song last
 
--- a packed song stands for a song, and has the bytes of the song's packed data and as many rows of the speed table
+-- a packed song stands for a song, and has the bytes of the song's packed data, and as many instruments and rows of the
+-- speed table
 pub record PacksSong (packed : PackedSong) (song : Song) : Type 0 where
   pub stands : StandsFor packed song
   pub used : UsedSets
   pub are_used : AreUsedSets song used
   pub size : packed_song_size packed ≡ packed_size song used
+  pub instruments : length packed.instruments ≡ instrument_count used
   pub speeds : length packed.speed ≡ length (speed_rows song (used.pointers Speed))
 
 -- a file was written, or not

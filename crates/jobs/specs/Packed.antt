@@ -12,10 +12,10 @@ use Rattle.asked_numbers.specs.declared.range.NumberRange.{NumberRange}
 use Rattle.asked_numbers.specs.Range.{IsNumberRange}
 use Rattle.packing_rules.specs.UsedSets.{UsedSets, AreUsedSets}
 use Rattle.packing_rules.specs.Renumbering.{speed_rows}
-use Rattle.packing_rules.specs.SongSizes.{packed_size}
 use Rattle.kept_lines.specs.Asked.{Asks}
 use Rattle.image_parts.specs.CodeParts.{code_length}
 use Rattle.image_parts.specs.Lengths.{slide_bytes, frequency_bytes}
+use Rattle.song_costs.specs.Kinds.{read_data}
 use Rattle.command_line.specs.declared.chip.Chip.{Chip}
 use Rattle.command_line.specs.declared.chip.Chip.TheVariants.{Mos6581, Mos8580}
 use Rattle.psid.specs.declared.header.Header.{Header}
@@ -79,9 +79,9 @@ pub record IsPackedFile (psid : Bool) (address zero_page : ℕ) (song : Song) (o
   pub below : address + length image ≤ 0xD000
   pub faithful : IsFaithful image address zero_page song options
 
--- how many bytes the image of a song has: those of its packed data, those of the slides and periods of calculated
--- speeds, those of the frequencies of the numbers that it asks for, and those of the player's parts that its features, its
--- facts and the options want
+-- how many bytes the image of a song has: those that are read of its packed data, those of the slides and periods of
+-- calculated speeds, those of the frequencies of the numbers that it asks for, with the gap in front of them, and those
+-- of the player's parts that its features, its facts and the options want
 pub record IsImageLength (song : Song) (options : Options) (count : ℕ) : Type 0 where
   pub used : UsedSets
   pub asked : ℕ
@@ -90,8 +90,8 @@ pub record IsImageLength (song : Song) (options : Options) (count : ℕ) : Type 
   pub asks : Asks song asked
   pub are_numbers : IsNumberRange song numbers
   pub count_is : count
-      ≡ packed_size song used + slide_bytes asked (length (speed_rows song (used.pointers Speed)))
-      + frequency_bytes numbers (packed_size song used) + code_length asked options
+      ≡ read_data song used asked + slide_bytes asked (length (speed_rows song (used.pointers Speed)))
+      + frequency_bytes numbers (read_data song used asked) + code_length asked options
 
 -- a file that `pack` writes: a packed file, of an image that is as long as that, and that plays the song after any calls,
 -- from the first init on each by the image's bytes alone

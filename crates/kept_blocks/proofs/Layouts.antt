@@ -75,25 +75,25 @@ used features facts options feature set =
     rw (below, asked_is_exact features facts (bit_of feature), below)
     (eq-eqb (bit_at features (bit_of feature)) 1 (bit_in features (bit_of feature) set))
 
--- and that of a fact
-had : (features : ℕ) (facts : Facts) (options : Options) (fact : Fact) → is_among facts fact ≡ true →
-    keeps (asked features facts) options (fact_condition fact) ≡ true
-had features facts options RowTone is = asked_is_exact features facts ROW_TONE ∙ is
-had features facts options RowSlide is = asked_is_exact features facts ROW_SLIDE ∙ is
-had features facts options RowOnce is = asked_is_exact features facts ROW_ONCE ∙ is
-had features facts options FirstMask is = asked_is_exact features facts FIRST_MASK ∙ is
-had features facts options Legato is = asked_is_exact features facts LEGATO ∙ is
-had features facts options NoHardRestart is = asked_is_exact features facts NO_HARD_RESTART ∙ is
-had features facts options WaveDelay is = asked_is_exact features facts WAVE_DELAY ∙ is
-had features facts options GateNote is = asked_is_exact features facts GATE_NOTE ∙ is
-had features facts options NoteVibrato is = asked_is_exact features facts NOTE_VIBRATO ∙ is
-had features facts options VibratoDelay is = asked_is_exact features facts VIBRATO_DELAY ∙ is
-had features facts options NotePulse is = asked_is_exact features facts NOTE_PULSE ∙ is
-had features facts options NoteFilter is = asked_is_exact features facts NOTE_FILTER ∙ is
-had features facts options VoiceTempo is = asked_is_exact features facts VOICE_TEMPO ∙ is
-had features facts options CommonTempo is = asked_is_exact features facts COMMON_TEMPO ∙ is
-had features facts options FunkTurns is = asked_is_exact features facts FUNK_TURNS ∙ is
-had features facts options FunkChoice is = asked_is_exact features facts FUNK_CHOICE ∙ is
+-- and that of a fact where the song has it, and only there
+had : (features : ℕ) (facts : Facts) (options : Options) (fact : Fact) →
+    keeps (asked features facts) options (fact_condition fact) ≡ is_among facts fact
+had features facts options RowTone = asked_is_exact features facts ROW_TONE
+had features facts options RowSlide = asked_is_exact features facts ROW_SLIDE
+had features facts options RowOnce = asked_is_exact features facts ROW_ONCE
+had features facts options FirstMask = asked_is_exact features facts FIRST_MASK
+had features facts options Legato = asked_is_exact features facts LEGATO
+had features facts options NoHardRestart = asked_is_exact features facts NO_HARD_RESTART
+had features facts options WaveDelay = asked_is_exact features facts WAVE_DELAY
+had features facts options GateNote = asked_is_exact features facts GATE_NOTE
+had features facts options NoteVibrato = asked_is_exact features facts NOTE_VIBRATO
+had features facts options VibratoDelay = asked_is_exact features facts VIBRATO_DELAY
+had features facts options NotePulse = asked_is_exact features facts NOTE_PULSE
+had features facts options NoteFilter = asked_is_exact features facts NOTE_FILTER
+had features facts options VoiceTempo = asked_is_exact features facts VOICE_TEMPO
+had features facts options CommonTempo = asked_is_exact features facts COMMON_TEMPO
+had features facts options FunkTurns = asked_is_exact features facts FUNK_TURNS
+had features facts options FunkChoice = asked_is_exact features facts FUNK_CHOICE
 
 -- either of two
 or_first : (z y : Bool) → z ≡ true → (z || y) ≡ true
@@ -175,7 +175,8 @@ common_of set options layout is = record {
 pub sets_keep_their_lines : SetsKeepTheirLines
 sets_keep_their_lines layout features facts options holds = record {
   features_are = λ feature set. is (bit_of feature) ∙ used features facts options feature set;
-  facts_are = λ fact has. is (fact_condition fact) ∙ had features facts options fact has;
+  facts_are = λ fact has. is (fact_condition fact) ∙ (had features facts options fact ∙ has);
+  facts_alone = λ fact on. sym (had features facts options fact) ∙ (sym (is (fact_condition fact)) ∙ on);
   options_are = record { effects = is 24; pulse = is 25; first = is 27 };
   common = common_of (asked features facts) options layout is;
   shared = shared_of (asked features facts) options layout is;

@@ -28,6 +28,7 @@ layouts_are_worked layout options = record {
       ∙ asked_is_exact (2 ^ VIBRATO) no_facts TONE_PORTA));
   feature = λ out keeps. true≢false (sym (keeps.features_are Transpose (omega arith)) ∙ out);
   fact = λ out keeps. true≢false (sym (keeps.facts_are GateNote refl) ∙ out);
+  other_fact = λ on keeps. absurd (let none = keeps.facts_alone GateNote on in true≢false (sym none));
   common = λ out keeps. true≢false (sym (keeps.common.rise (rw (keeps.features_are PortaUp (omega arith)) refl)) ∙ out);
   shared = λ out keeps. true≢false (sym (keeps.shared.once (keeps.facts_are RowOnce refl)) ∙ out);
   special = λ out keeps. true≢false (sym (keeps.shared.command (keeps.features_are WaveCommand (omega arith))) ∙ out);

@@ -31,6 +31,7 @@ pub record LayoutsAreWorked (layout : Layout) (options : Options) : Type 0 where
       no_facts no_options
   pub feature : layout.holds TRANSPOSES ≡ false → ¬ KeepsLines layout (2 ^ TRANSPOSES) no_facts options
   pub fact : layout.holds GATE_NOTE ≡ false → ¬ KeepsLines layout 0 gate_noted options
+  pub other_fact : layout.holds GATE_NOTE ≡ true → ¬ KeepsLines layout 0 no_facts options
   pub common : layout.holds RISE ≡ false → ¬ KeepsLines layout (2 ^ PORTA_UP) no_facts options
   pub shared : layout.holds ROW_COMMAND ≡ false →
       ¬ KeepsLines layout 0 (record no_facts { row_once = true }) options

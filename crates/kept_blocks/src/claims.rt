@@ -5,8 +5,8 @@ ghost use Rattle.scopes.specs.Desk.{Layout};
 ghost use Rattle.kept_blocks.specs.KeptBlocks.{SetsKeepTheirLines};
 ghost use Rattle.kept_blocks.specs.WorkedLayouts.{LayoutsAreWorked};
 
-/// A layout with this set keeps the lines of each feature and fact of the song, of each option as it is, and of what
-/// these have in common, and sets the timer where there are several play calls in a picture.
+/// A layout with this set keeps the lines of each feature and fact of the song and of no other fact, of each option as
+/// it is, and of what these have in common, and sets the timer where there are several play calls in a picture.
 pub fn sets_keep_their_lines()
     ensures { SetsKeepTheirLines }
 {}

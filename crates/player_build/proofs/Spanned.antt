@@ -1,16 +1,16 @@
 -- The spans of an image name the parts of its bytes.
-use Rattle.std.proofs.Common.{◌≡◌, ℕ, ◌+◌, ◌-◌, ◌*◌, ◌<◌, ◌≤◌, ◌⊎◌, ◌==◌, Bool, true, false, if◌then◌else◌}
+use Rattle.std.proofs.Common.{◌≡◌, ℕ, ◌+◌, ◌-◌, ◌<◌, ◌≤◌, ◌⊎◌, ◌==◌, Bool, true, false, if◌then◌else◌}
 use Rattle.std.proofs.Common.{List, [], ◌∷◌, ◌++◌, All, length, replicate, refl, sym, ap, ◌∙◌, arith, inl, inr, subst}
 use Rattle.std.proofs.lemmas.Bool.{cases_lt, cases_eq, ne_eqb}
 use Rattle.std.proofs.lemmas.List.Elements.{All-nil, All-cons, All-append}
 use Rattle.std.proofs.lemmas.List.Sums.{sum_by-append}
 use Rattle.play_model.specs.declared.options.Options.{Options}
 use Rattle.packed_form.specs.declared.packed_songs.PackedSong.{PackedSong}
-use Rattle.packed_form.specs.Sizes.{packed_song_size}
 use Rattle.scope_parts.specs.Parts.{bytes_of}
 use Rattle.kept_lines.specs.Asked.{asked_by}
 use Rattle.image_parts.specs.CodeParts.{always, code_parts, code_length, zero_bytes}
-use Rattle.image_parts.specs.Lengths.{slide_bytes, frequency_bytes, image_length}
+use Rattle.image_parts.specs.Lengths.{slide_bytes, read_of, frequency_bytes, image_length}
+use Rattle.image_parts.proofs.Laws.{speeds_are_read}
 use Rattle.player_build.specs.declared.image.PartSpan.{PartSpan}
 use Rattle.player_build.specs.Spans.{StandInOrder, spans_size, part_size, parts_of_spans, zero_length, IsNamed, song_bytes, NamesParts}
 use Rattle.player_build.specs.Joined.{Follow, zero_span, AreSpansOf}
@@ -187,11 +187,11 @@ zero_parts code a b = spans_split code (zero_span a ∷ zero_span b ∷ [])
 
 rows_within : (packed : PackedSong) → length packed.speed ≤ song_bytes packed
 rows_within packed =
-    within _ (length packed.speed) (slide_bytes (asked_by packed) (length packed.speed))
-    (frequency_bytes packed.numbers (packed_song_size packed))
+    within (read_of packed) (length packed.speed) (slide_bytes (asked_by packed) (length packed.speed))
+    (frequency_bytes packed.numbers (read_of packed)) (speeds_are_read packed)
   where
-    within : (rest rows slides frequencies : ℕ) → rows ≤ rest + 2 * rows + slides + frequencies
-    within rest rows slides frequencies = omega arith
+    within : (read rows slides frequencies : ℕ) → rows ≤ read → rows ≤ read + slides + frequencies
+    within read rows slides frequencies few = omega (arith, few)
 
 code_ends : (code packed all size : ℕ) → code + zero_bytes ≡ all → size ≡ packed + all → code ≤ size
 code_ends code packed all size a b = omega (arith, a, b)

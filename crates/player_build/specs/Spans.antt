@@ -4,11 +4,10 @@ use Rattle.std.specs.Prelude.{◌∷◌, ◌++◌, All, Contains, flat_map, repl
 use Rattle.std.specs.Prelude.{◌==◌, if◌then◌else◌}
 use Rattle.play_model.specs.declared.options.Options.{Options}
 use Rattle.packed_form.specs.declared.packed_songs.PackedSong.{PackedSong}
-use Rattle.packed_form.specs.Sizes.{packed_song_size}
 use Rattle.player_image.specs.Images.{image_count}
 use Rattle.kept_lines.specs.Asked.{asked_by}
 use Rattle.image_parts.specs.CodeParts.{always, code_parts, code_length, zero_bytes, part_length}
-use Rattle.image_parts.specs.Lengths.{slide_bytes, frequency_bytes}
+use Rattle.image_parts.specs.Lengths.{slide_bytes, read_of, frequency_bytes}
 use Rattle.player_build.specs.declared.image.PartSpan.{PartSpan}
 
 -- each span begins where the one before it ends, or behind that, the first at a place or behind it
@@ -63,11 +62,11 @@ pub record NamesCommon (packed : PackedSong) (options : Options) (spans : List P
   pub second_zero :
       IsNamedAs spans (code_length (asked_by packed) options - zero_length + length packed.speed) always
 
--- the bytes of the song's lists: the packed song's, its slides and its frequencies
+-- the bytes of the song's lists: what is read of the packed song, its slides, and its frequencies with their gap
 abbrev pub song_bytes : PackedSong → ℕ
 song_bytes packed =
-    packed_song_size packed + slide_bytes (asked_by packed) (length packed.speed)
-    + frequency_bytes packed.numbers (packed_song_size packed)
+    read_of packed + slide_bytes (asked_by packed) (length packed.speed)
+    + frequency_bytes packed.numbers (read_of packed)
 
 -- the spans are in order, don't overlap, and end within the image; a byte of the image is in one exactly where it isn't of
 -- the song's lists; the parts of the bytes in them, in order, are those of the code, and behind these that which is always

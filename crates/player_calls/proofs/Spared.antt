@@ -1,5 +1,5 @@
 -- A state that a memory holds with spare bytes beside it, for each wide layout.
-use Rattle.std.proofs.Common.{◌≡◌, ℕ, ◌+◌, ◌<◌, ◌||◌, Bool, true, false, List, if◌then◌else◌, inl, inr, refl}
+use Rattle.std.proofs.Common.{◌≡◌, ℕ, ◌||◌, Bool, true, false, List, if◌then◌else◌, inl, inr, refl}
 use Rattle.std.proofs.Common.{sym, ◌∙◌}
 use Rattle.std.proofs.lemmas.Bool.{or_cases, both_ways}
 use Rattle.song_model.specs.declared.songs.Song.{Song}

@@ -1,7 +1,7 @@
 -- An entrance of a player does what it does in two layouts in which each variable has a byte: their spare bytes are
 -- neither read nor written.
-use Rattle.std.proofs.Common.{◌≡◌, ◌≢◌, ℕ, ◌+◌, ◌<◌, ◌≤◌, ◌⊎◌, ◌&&◌, ◌||◌, Bool, true, false, nat_eq, nat_le, nat_lt}
-use Rattle.std.proofs.Common.{if◌then◌else◌, List, length, inl, inr, refl, sym, ap, ◌∙◌, arith}
+use Rattle.std.proofs.Common.{◌≡◌, ◌≢◌, ℕ, ◌+◌, ◌<◌, ◌≤◌, ◌⊎◌, ◌||◌, Bool, true, false, nat_eq, nat_le, nat_lt}
+use Rattle.std.proofs.Common.{List, length, inl, inr, refl, sym, ap, ◌∙◌, arith}
 use Rattle.std.proofs.lemmas.Bool.{or_cases, and_parts, both_ways, eqb-true, leb-true, ltb-true, le-leb, lt-ltb}
 use Rattle.song_model.specs.declared.songs.Song.{Song}
 use Rattle.play_model.specs.declared.options.Options.{Options}

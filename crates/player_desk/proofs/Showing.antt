@@ -1,8 +1,7 @@
 -- A desk in memory is what the code of a voice sees: its registers, and the byte that an instruction reads.
 use Rattle.std.proofs.Common.{◌≡◌, ℕ, ◌+◌, ◌*◌, ◌%◌, ◌<◌}
 use Rattle.std.proofs.Common.{◌&&◌, Bool, true, false}
-use Rattle.std.proofs.Common.{nat_lt, refl, ap, ◌∙◌, arith}
-use Rattle.std.proofs.lemmas.Bool.{ltb-true, and_parts}
+use Rattle.std.proofs.Common.{refl, ap, ◌∙◌, arith}
 use Rattle.cpu6502.specs.declared.cpu.Cpu.{Cpu}
 use Rattle.scopes.specs.declared.line.Operand.{Operand}
 use Rattle.scopes.specs.declared.line.Operand.TheVariants.{Number, Var, Own, Entry, Pointed, Pointer, Register}

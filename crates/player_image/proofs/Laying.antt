@@ -1,6 +1,6 @@
 -- The layout of an image is a player's: its variables and lists have their room, which the blocks may use.
 use Rattle.std.proofs.Common.{◌≡◌, ℕ, ◌+◌, ◌*◌, ◌%◌, ◌<◌, ◌≤◌, ◌⊎◌, ◌&&◌, ◌||◌, nat_le}
-use Rattle.std.proofs.Common.{nat_lt, Bool, true, false, List, Contains, if◌then◌else◌}
+use Rattle.std.proofs.Common.{nat_lt, Bool, true, false, List, Contains}
 use Rattle.std.proofs.Common.{refl, ap, ◌∙◌, arith, inl, inr}
 use Rattle.std.proofs.lemmas.Bool.{or_cases, and_parts, both_ways, cases_lt, leb-true, ltb-true, le-leb, lt-ltb}
 use Rattle.std.proofs.lemmas.List.Elements.{All-contains}

@@ -1,6 +1,6 @@
 -- What stands in a memory with an image's bytes: the song's lists, and the variables.
 use Rattle.std.proofs.Common.{◌≡◌, ℕ, zero, suc, ◌+◌, ◌<◌, ◌≤◌, Bool, true, false, List, [], ◌∷◌, ◌++◌}
-use Rattle.std.proofs.Common.{length, None, inr, refl, sym, ap, if◌then◌else◌, ◌&&◌}
+use Rattle.std.proofs.Common.{length, None, inr, refl, sym, ap}
 use Rattle.std.proofs.lemmas.Bool.{lt-ltb}
 use Rattle.std.proofs.Common.{◌∙◌, subst, arith, append_assoc}
 use Rattle.std.specs.Prelude.{slice_index}

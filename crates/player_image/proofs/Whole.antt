@@ -153,6 +153,7 @@ module _ (packed : PackedSong) (song : Song) (o : Options) (origin pointer : ℕ
         start = refl;
         features = kept.features_are;
         facts = kept.facts_are;
+        alone = kept.facts_alone;
         shared = λ which. (wide which).shared;
         common = λ which. (wide which).common;
         options = λ which. (wide which).options_are;

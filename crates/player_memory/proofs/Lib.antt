@@ -6,6 +6,8 @@ mod Standing
 mod Starting
 -- Variables that stand one behind the other.
 mod Pieces
+-- Which fields of instruments are read.
+mod ReadFields
 -- Worked by hand.
 mod WorkedRooms
 mod WorkedMemory

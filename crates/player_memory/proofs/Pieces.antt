@@ -1,9 +1,8 @@
 -- Variables that stand one behind the other: they are apart, and what stands before or behind them is none of them.
-use Rattle.std.proofs.Common.{◌≡◌, ◌≢◌, ◌⊎◌, ℕ, ◌+◌, ◌*◌, ◌%◌, ◌<◌, ◌≤◌, true, nat_lt, inl, inr, arith}
+use Rattle.std.proofs.Common.{◌≡◌, ◌≢◌, ◌⊎◌, ℕ, ◌+◌, ◌*◌, ◌%◌, ◌<◌, ◌≤◌, nat_lt, inl, inr, arith}
 use Rattle.std.proofs.lemmas.Bool.{ltb-true, and_parts}
 use Rattle.scopes.specs.Desk.{Layout}
 use Rattle.player_memory.specs.declared.labels.TheConstants.{FUNK_ONE, FUNK_TWO, VARIABLES}
-use Rattle.player_memory.specs.Labels.{is_own}
 use Rattle.player_memory.specs.Rooms.{AreVariables, IsList}
 
 pub record InOnePiece (layout : Layout) (first : ℕ) : Type 0 where

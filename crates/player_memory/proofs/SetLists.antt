@@ -12,6 +12,7 @@ use Rattle.player_memory.specs.SongLists.{SongList, FrequencyLows, FrequencyHigh
 use Rattle.player_memory.specs.SongLists.{OrderLows, OrderHighs, PatternLows, PatternHighs, OrderBytes, PatternBytes}
 use Rattle.player_memory.specs.SongLists.{first_number, list_length, list_byte, list_label, IsSongList, HasNumber}
 use Rattle.player_memory.specs.SongLists.{slide_rows, ListsStand}
+use Rattle.player_memory.proofs.ReadFields.{read_below}
 use Rattle.player_memory.specs.WorkedLists.{piece, all_pieces, song_with}
 
 -- which list each piece is
@@ -63,7 +64,9 @@ module _ (layout : Layout) (speeds : List TableRow) (at : ℕ → ℕ)
   found (Instruments (suc (suc (suc (suc (suc (suc zero))))))) is = at_number 17 (omega arith)
   found (Instruments (suc (suc (suc (suc (suc (suc (suc zero)))))))) is = at_number 18 (omega arith)
   found (Instruments (suc (suc (suc (suc (suc (suc (suc (suc zero))))))))) is = at_number 19 (omega arith)
-  found (Instruments (suc (suc (suc (suc (suc (suc (suc (suc (suc more)))))))))) is = absurd (omega (arith, is))
+  found (Instruments (suc (suc (suc (suc (suc (suc (suc (suc (suc more)))))))))) is =
+      let few = read_below packed (suc (suc (suc (suc (suc (suc (suc (suc (suc more))))))))) is in
+      absurd (omega (arith, few))
   found OrderLows is = at_number 20 (omega arith)
   found OrderHighs is = at_number 21 (omega arith)
   found PatternLows is = at_number 22 (omega arith)

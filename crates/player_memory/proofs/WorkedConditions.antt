@@ -10,7 +10,7 @@ use Rattle.song_facts.specs.declared.facts.Fact.TheVariants.{NoteFilter}
 use Rattle.song_facts.specs.declared.facts.Fact.TheVariants.{VoiceTempo, CommonTempo, FunkTurns, FunkChoice}
 use Rattle.song_facts.specs.Facts.{HasFact, no_facts}
 use Rattle.player_memory.specs.declared.conditions.TheConstants.{GATE_NOTE}
-use Rattle.player_memory.specs.FactLines.{KeepsMarked}
+use Rattle.player_memory.specs.FactLines.{KeepsMarked, KeepsMarkedAlone}
 use Rattle.player_memory.specs.WorkedConditions.{ConditionsAreFeatures, ConditionsAreFacts, FactLinesAreWorked}
 use Rattle.player_memory.specs.WorkedConditions.{with_holding}
 
@@ -97,6 +97,44 @@ gate_kept layout holds CommonTempo on = absurd cc
 gate_kept layout holds FunkTurns on = absurd cc
 gate_kept layout holds FunkChoice on = absurd cc
 
+-- where at most the condition of a keyoff holds
+none_alone : (layout : Layout) → KeepsMarkedAlone (with_holding layout []) (record no_facts { gate_note = true })
+none_alone layout RowTone on = absurd cc
+none_alone layout RowSlide on = absurd cc
+none_alone layout RowOnce on = absurd cc
+none_alone layout FirstMask on = absurd cc
+none_alone layout Legato on = absurd cc
+none_alone layout NoHardRestart on = absurd cc
+none_alone layout WaveDelay on = absurd cc
+none_alone layout GateNote on = absurd cc
+none_alone layout NoteVibrato on = absurd cc
+none_alone layout VibratoDelay on = absurd cc
+none_alone layout NotePulse on = absurd cc
+none_alone layout NoteFilter on = absurd cc
+none_alone layout VoiceTempo on = absurd cc
+none_alone layout CommonTempo on = absurd cc
+none_alone layout FunkTurns on = absurd cc
+none_alone layout FunkChoice on = absurd cc
+
+gate_alone : (layout : Layout) →
+    KeepsMarkedAlone (with_holding layout (GATE_NOTE ∷ [])) (record no_facts { gate_note = true })
+gate_alone layout RowTone on = absurd cc
+gate_alone layout RowSlide on = absurd cc
+gate_alone layout RowOnce on = absurd cc
+gate_alone layout FirstMask on = absurd cc
+gate_alone layout Legato on = absurd cc
+gate_alone layout NoHardRestart on = absurd cc
+gate_alone layout WaveDelay on = absurd cc
+gate_alone layout GateNote on = refl
+gate_alone layout NoteVibrato on = absurd cc
+gate_alone layout VibratoDelay on = absurd cc
+gate_alone layout NotePulse on = absurd cc
+gate_alone layout NoteFilter on = absurd cc
+gate_alone layout VoiceTempo on = absurd cc
+gate_alone layout CommonTempo on = absurd cc
+gate_alone layout FunkTurns on = absurd cc
+gate_alone layout FunkChoice on = absurd cc
+
 -- the song of one note has a keyoff
 key_off : HasFact one_note GateNote
 unfolding pattern_at
@@ -128,6 +166,13 @@ fact_lines_are_worked layout = record {
   none = none_kept (with_holding layout []);
   gate = gate_kept (with_holding layout (GATE_NOTE ∷ [])) refl;
   other = λ keeps. (let on = keeps GateNote refl in absurd cc);
+  alone = gate_alone layout;
+  fewer = none_alone layout;
+  more = λ alone. (let on = alone WaveDelay refl in absurd cc);
+  pulse_more = λ alone. (let on = alone NotePulse refl in absurd cc);
+  filter_more = λ alone. (let on = alone NoteFilter refl in absurd cc);
+  vibrato_more = λ alone. (let on = alone NoteVibrato refl in absurd cc);
+  delay_more = λ alone. (let on = alone VibratoDelay refl in absurd cc);
   song = λ keeps. (let on = keeps GateNote key_off in absurd cc);
   free = record {
     tone = λ on. absurd cc;

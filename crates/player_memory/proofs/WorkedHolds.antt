@@ -36,7 +36,6 @@ use Rattle.player_memory.specs.WorkedHolds.{IsLaidOut, PatternAt, LayoutsAreWork
 use Rattle.player_memory.specs.WorkedHolds.{KeptAreWorked, moved_in, walked_memory, walked_state, HoldsSecond}
 use Rattle.player_memory.proofs.Standing.{playing_in}
 use Rattle.player_memory.proofs.WorkedRooms.{IsLaid, IsOpen, room_in, uses_in, behind_slides, off_variables}
-use Rattle.player_memory.proofs.WorkedMemory.{neither}
 use Rattle.player_memory.proofs.Starting.{voice_begins, shared_rows_begin, beginnings_play}
 use Rattle.player_memory.proofs.SetLists.{all_are_set, lists_stand, behind}
 
@@ -141,8 +140,8 @@ lists_are_in_memory = record {
   last_pulse = refuses (put song_memory 0x111F 1) (Rights Pulse) 2 tt refl refl;
   first_filter = refuses (put song_memory 0x1120 0) (Lefts Filter) 1 tt refl refl;
   last_filter = refuses (put song_memory 0x1125 1) (Rights Filter) 3 tt refl refl;
-  first_ad = refuses (put song_memory 0x1126 0) (Instruments 0) 1 (omega arith) refl refl;
-  last_first_wave = refuses (put song_memory 0x1137 0) (Instruments 8) 2 (omega arith) refl refl;
+  first_ad = refuses (put song_memory 0x1126 0) (Instruments 0) 1 refl refl refl;
+  last_first_wave = refuses (put song_memory 0x1137 0) (Instruments 8) 2 refl refl refl;
   first_order_low = refuses (put song_memory 0x1138 0) OrderLows 0 tt refl refl;
   last_order_high = refuses (put song_memory 0x1143 0) OrderHighs 5 tt refl refl;
   first_pattern_low = refuses (put song_memory 0x1144 0) PatternLows 0 tt refl refl;
@@ -240,7 +239,7 @@ layouts_are_worked = record {
   pulse_left = λ is. (let e = is.next.pulse_lefts in omega (arith, e));
   filter_left = λ is. (let e = is.next.filter_lefts in omega (arith, e));
   low = λ is.
-      (let l = is.lists (Instruments 0) 1 (omega arith) (record { from = omega arith; to = omega arith }) in
+      (let l = is.lists (Instruments 0) 1 refl (record { from = omega arith; to = omega arith }) in
       omega (arith, l));
   over = λ is. (let l = is.orders 5 (omega arith) in omega (arith, l));
   last = last_place;
@@ -346,7 +345,7 @@ states_are_held = record {
   label = refl;
   order = refl;
   holds = holds;
-  lists = λ is. refuses (put song_memory 0x1126 0) (Instruments 0) 1 (omega arith) refl refl is.lists;
+  lists = λ is. refuses (put song_memory 0x1126 0) (Instruments 0) 1 refl refl refl is.lists;
   lent = λ is. (let byte = is.none_lent in omega (arith, byte));
   plays = λ is. (let byte = (is.voices 2 (omega arith)).plays.own.0 in omega (arith, byte));
   rests = λ is. rests (is.voices 0 (omega arith)).song.stands;

@@ -12,21 +12,32 @@ tables = assumption
 
 instruments : AreAsWorked list_layout worked_song instrument_pieces
 unfolding instrument_at
-instruments = search ltb-true
+instruments = assumption
 
 orders : AreAsWorked list_layout worked_song order_pieces
 orders = search ltb-true
 
 pub song_lists_are_worked : SongListsAreWorked
 song_lists_are_worked = record {
-  first = record { none = refl; last = refl; last_count = refl; beyond = refl; beyond_count = refl };
+  read = record {
+    all = refl;
+    none = refl;
+    no_pulse = refl;
+    no_filter = refl;
+    no_vibrato = refl;
+    no_delay = refl;
+    in_front = refl;
+    in_front_of_fewer = refl;
+  };
+  gaps = record { none = refl; last = refl; beyond = refl; far = refl; fewer = refl };
   tables = tables;
   instruments = instruments;
   orders = orders;
-  no_field = λ few. omega (arith, few);
+  no_field = λ e. absurd (cc);
   no_subtune = λ is. (let few = is.0 in omega (arith, few));
   no_channel = λ is. (let few = is.1 in omega (arith, few));
   no_pattern = λ few. omega (arith, few);
+  no_pulses = λ e. absurd (cc);
   no_periods = λ e. absurd (cc);
   speed_row_none = record { from = omega arith; to = omega arith };
   speed_row = record { from = omega arith; to = omega arith };

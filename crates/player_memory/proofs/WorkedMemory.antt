@@ -1,7 +1,7 @@
 -- The variables, a voice in its bytes and a room, worked.
 use Rattle.std.proofs.Common.{◌⊎◌, false, ◌+◌, true, nat_eq, refl, arith, inl, inr}
 use Rattle.std.proofs.lemmas.Bool.{eqb-true, agree_below_at, both_ways}
-use Rattle.player_memory.specs.declared.labels.TheConstants.{TICK, PULSE_HIGH, VIB_DELAY, NOTE}
+use Rattle.player_memory.specs.declared.labels.TheConstants.{TICK, PULSE_HIGH, VIB_DELAY}
 use Rattle.code_runs.specs.Runs.{put}
 use Rattle.player_memory.specs.Labels.{is_own, is_shared}
 use Rattle.player_memory.specs.WorkedMemory.{times, own_rows, shared_rows, is_of, counted, VariablesHaveRows}

@@ -42,6 +42,11 @@ fact_condition FunkChoice = FUNK_CHOICE
 abbrev pub KeepsMarked : Layout → Facts → Type 0
 KeepsMarked layout facts = (fact : Fact) → is_among facts fact ≡ true → layout.holds (fact_condition fact) ≡ true
 
+-- and those of no other fact
+abbrev pub KeepsMarkedAlone : Layout → Facts → Type 0
+KeepsMarkedAlone layout facts =
+    (fact : Fact) → layout.holds (fact_condition fact) ≡ true → is_among facts fact ≡ true
+
 -- of each fact that a song has
 abbrev pub KeepsFacts : Layout → Song → Type 0
 KeepsFacts layout song = (fact : Fact) → HasFact song fact → layout.holds (fact_condition fact) ≡ true

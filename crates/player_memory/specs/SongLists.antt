@@ -1,7 +1,9 @@
 -- The lists of a packed song as the player reads them: what each of them has, under which label, and where their bytes
 -- stand. This is the project's own player.
 use Rattle.std.specs.Prelude.{◌≡◌, ℕ, ◌+◌, ◌-◌, ◌*◌, ◌/◌, ◌%◌, ◌<◌, ◌≤◌, ◌==◌}
-use Rattle.std.specs.Prelude.{true, false, if◌then◌else◌, List, [], length, slice_index, slice_index_or}
+use Rattle.std.specs.Prelude.{Bool, true, false, if◌then◌else◌, nat_lt, List, [], length, slice_index, slice_index_or}
+use Rattle.std.specs.Prelude.{sum_by}
+use Rattle.std.specs.List.{range_with_len}
 use Rattle.song_model.specs.declared.instruments.Instrument.{Instrument}
 use Rattle.song_model.specs.declared.tables.TableRow.{TableRow}
 use Rattle.song_model.specs.declared.tables.TableName.{TableName}
@@ -20,7 +22,7 @@ use Rattle.player_memory.specs.declared.labels.TheConstants.{FILTER_LEFTS, FILTE
 use Rattle.player_memory.specs.declared.labels.TheConstants.{PERIODS, ADS, ORDERS_LOW, ORDERS_HIGH, PATTERNS_LOW}
 use Rattle.player_memory.specs.declared.labels.TheConstants.{PATTERNS_HIGH, ORDERS, PATTERNS}
 use Rattle.player_memory.specs.Forms.{stored}
-use Rattle.player_memory.specs.ListedNumbers.{first_in, count_in}
+use Rattle.player_memory.specs.Gaps.{gap_in}
 use Rattle.player_memory.specs.Playing.{IsListed}
 
 -- subtunes, channels and instruments' fields are counted from 0 here
@@ -33,7 +35,7 @@ pub data SongList : Type 0 where
   Rights : (name : TableName) → SongList
   -- the periods of vibratos, by rows of the speed table
   Periods : SongList
-  -- one of the nine bytes of each instrument
+  -- one of the nine bytes of each instrument, where it is read
   Instruments : (field : ℕ) → SongList
   -- the addresses of orderlists, three for each subtune, and the places before patterns: low bytes, high bytes
   OrderLows : SongList
@@ -59,6 +61,16 @@ order_bytes packed subtune channel = channel_bytes channel (slice_index_or packe
 
 abbrev pub pattern_bytes : PackedSong → ℕ → List ℕ
 pattern_bytes packed pattern = slice_index_or packed.patterns pattern []
+
+-- A field of an instrument is read where a line of the player may read it: its pulse program, its filter program, its
+-- vibrato and the delay of that where the song has an instrument with such, and the other five always.
+abbrev pub is_read : PackedSong → ℕ → Bool
+is_read packed field =
+    if field == 3 then packed.facts.note_pulse
+    else if field == 4 then packed.facts.note_filter
+    else if field == 5 then packed.facts.note_vibrato
+    else if field == 6 then packed.facts.vibrato_delay
+    else nat_lt field 9
 
 -- a field of an instrument, in the order of a file; the vibrato's delay stands less one, 255 for none
 abbrev pub instrument_byte : ℕ → Instrument → ℕ
@@ -96,20 +108,25 @@ list_byte layout packed (PatternBytes pattern) number = slice_index (pattern_byt
 
 -- ---- which numbers they have
 
--- of the frequencies, behind two zeros and the packed song
+-- the bytes of a field of all instruments that stand nowhere, since it isn't read; and those of all nine
+abbrev pub unread : PackedSong → ℕ → ℕ
+unread packed field = if is_read packed field then 0 else length packed.instruments
+
+abbrev pub unread_size : PackedSong → ℕ
+unread_size packed = sum_by (unread packed) (range_with_len 0 9)
+
+-- two zeros and what is read of the packed song stand in front of the frequencies, and as many zeros as there is a gap
 abbrev pub bytes_in_front : PackedSong → ℕ
-bytes_in_front packed = 2 + packed_song_size packed
+bytes_in_front packed = 2 + packed_song_size packed - unread_size packed
 
-abbrev pub first_listed : PackedSong → ℕ
-first_listed packed = first_in packed.numbers (bytes_in_front packed)
+abbrev pub gap_size : PackedSong → ℕ
+gap_size packed = gap_in packed.numbers (bytes_in_front packed)
 
-abbrev pub frequencies_listed : PackedSong → ℕ
-frequencies_listed packed = count_in packed.numbers (bytes_in_front packed)
-
--- the first number, and how many there are: of the speed table row 0, too, which is a zero row
+-- the first number, and how many there are: of the frequencies those that the song asks for, and of the speed table row
+-- 0, too, which is a zero row
 abbrev pub first_number : PackedSong → SongList → ℕ
-first_number packed FrequencyLows = first_listed packed
-first_number packed FrequencyHighs = first_listed packed
+first_number packed FrequencyLows = packed.numbers.first
+first_number packed FrequencyHighs = packed.numbers.first
 first_number packed (Lefts Wave) = 1
 first_number packed (Lefts Pulse) = 1
 first_number packed (Lefts Filter) = 1
@@ -124,8 +141,8 @@ rows_listed packed Speed = length packed.speed + 1
 rows_listed packed name = length (table_of (unpacked_song packed) name)
 
 abbrev pub list_length : PackedSong → SongList → ℕ
-list_length packed FrequencyLows = frequencies_listed packed
-list_length packed FrequencyHighs = frequencies_listed packed
+list_length packed FrequencyLows = packed.numbers.count
+list_length packed FrequencyHighs = packed.numbers.count
 list_length packed (Lefts name) = rows_listed packed name
 list_length packed (Rights name) = rows_listed packed name
 list_length packed Periods = rows_listed packed Speed
@@ -142,11 +159,11 @@ pub record HasNumber (packed : PackedSong) (list : SongList) (number : ℕ) : Ty
   pub from : first_number packed list ≤ number
   pub to : number < first_number packed list + list_length packed list
 
--- there are nine lists of instruments, and three orderlists of each subtune; periods are a list of their own where the
--- code for calculated speeds is kept
+-- there is a list of each field of instruments that is read, and three orderlists of each subtune; periods are a list
+-- of their own where the code for calculated speeds is kept
 abbrev pub IsSongList : Layout → PackedSong → SongList → Type 0
 IsSongList layout packed Periods = layout.holds NOTE_DEPENDENT ≡ true
-IsSongList layout packed (Instruments field) = field < 9
+IsSongList layout packed (Instruments field) = is_read packed field ≡ true
 IsSongList layout packed (OrderBytes subtune channel) = (subtune < length packed.subtunes) × (channel < 3)
 IsSongList layout packed (PatternBytes pattern) = pattern < length packed.patterns
 IsSongList layout packed list = Unit {0}

@@ -21,9 +21,10 @@ use Rattle.player_memory.specs.declared.conditions.TheConstants.{FILTER_TABLE, S
 use Rattle.player_memory.specs.declared.conditions.TheConstants.{SET_CUTOFF, SET_VOLUME, FUNK_TEMPO, SET_TEMPO}
 use Rattle.player_memory.specs.declared.conditions.TheConstants.{WAVE_TABLE, WAVE_COMMAND, ROW_SLIDE, ROW_ONCE}
 use Rattle.player_memory.specs.declared.conditions.TheConstants.{ROW_COMMAND, LEGATO, NO_HARD_RESTART, WAVE_DELAY}
-use Rattle.player_memory.specs.declared.conditions.TheConstants.{GATE_NOTE}
+use Rattle.player_memory.specs.declared.conditions.TheConstants.{GATE_NOTE, NOTE_PULSE, NOTE_FILTER, NOTE_VIBRATO}
+use Rattle.player_memory.specs.declared.conditions.TheConstants.{VIBRATO_DELAY}
 use Rattle.player_memory.specs.declared.conditions.TheConstants.{ROW_TONE, FILTER_USED}
-use Rattle.player_memory.specs.FactLines.{fact_condition, KeepsMarked, KeepsFacts, KeepsShared}
+use Rattle.player_memory.specs.FactLines.{fact_condition, KeepsMarked, KeepsMarkedAlone, KeepsFacts, KeepsShared}
 
 pub record ConditionsAreFeatures : Type 0 where
   pub transposes : bit_of Transpose ≡ TRANSPOSES
@@ -64,6 +65,15 @@ pub record FactLinesAreWorked (layout : Layout) : Type 0 where
   pub none : KeepsMarked (with_holding layout []) no_facts
   pub gate : KeepsMarked (with_holding layout (GATE_NOTE ∷ [])) (record no_facts { gate_note = true })
   pub other : ¬ KeepsMarked (with_holding layout (WAVE_DELAY ∷ [])) (record no_facts { gate_note = true })
+  -- and those of no more than these, with or without them
+  pub alone : KeepsMarkedAlone (with_holding layout (GATE_NOTE ∷ [])) (record no_facts { gate_note = true })
+  pub fewer : KeepsMarkedAlone (with_holding layout []) (record no_facts { gate_note = true })
+  pub more : ¬ KeepsMarkedAlone (with_holding layout (GATE_NOTE ∷ WAVE_DELAY ∷ []))
+      (record no_facts { gate_note = true })
+  pub pulse_more : ¬ KeepsMarkedAlone (with_holding layout (NOTE_PULSE ∷ [])) no_facts
+  pub filter_more : ¬ KeepsMarkedAlone (with_holding layout (NOTE_FILTER ∷ [])) no_facts
+  pub vibrato_more : ¬ KeepsMarkedAlone (with_holding layout (NOTE_VIBRATO ∷ [])) no_facts
+  pub delay_more : ¬ KeepsMarkedAlone (with_holding layout (VIBRATO_DELAY ∷ [])) no_facts
   pub song : ¬ KeepsFacts (with_holding layout []) one_note
   pub free : KeepsShared (with_holding layout [])
   pub tone : ¬ KeepsShared (with_holding layout (ROW_TONE ∷ []))

@@ -1,5 +1,5 @@
 -- The lists of a small packed song, worked by hand: under which label each stands, its first number, and its bytes.
-use Rattle.std.specs.Prelude.{◌≡◌, ℕ, ◌+◌, ◌≤◌, ◌&&◌, true, false, nat_eq, nat_le, nat_lt, if◌then◌else◌}
+use Rattle.std.specs.Prelude.{◌≡◌, ℕ, ◌+◌, ◌≤◌, ◌&&◌, Bool, true, false, nat_eq, nat_le, nat_lt, if◌then◌else◌}
 use Rattle.std.specs.Prelude.{List, [], ◌∷◌, ◌++◌, map}
 use Rattle.std.specs.List.{range_with_len}
 use Rattle.std.proofs.Common.{arith}
@@ -8,6 +8,7 @@ use Rattle.song_model.specs.declared.tables.TableName.TheVariants.{Wave, Pulse, 
 use Rattle.packed_form.specs.declared.packed_songs.PackedSubtune.{PackedSubtune}
 use Rattle.packed_form.specs.declared.packed_songs.PackedInstrument.{PackedInstrument}
 use Rattle.packed_form.specs.declared.packed_songs.PackedSong.{PackedSong}
+use Rattle.song_facts.specs.declared.facts.Facts.{Facts}
 use Rattle.song_facts.specs.Facts.{no_facts}
 use Rattle.scopes.specs.Desk.{Layout}
 use Rattle.player_memory.specs.declared.labels.TheConstants.{FREQUENCY_LOWS, FREQUENCY_HIGHS, SPEED_LEFTS, SPEED_RIGHTS}
@@ -21,7 +22,7 @@ use Rattle.player_memory.specs.declared.labels.TheConstants.{NEXT_WAVE_LEFTS, NE
 use Rattle.player_memory.specs.declared.labels.TheConstants.{NEXT_FILTER_LEFTS}
 use Rattle.player_memory.specs.SongLists.{SongList, FrequencyLows, FrequencyHighs, Lefts, Rights, Periods, Instruments}
 use Rattle.player_memory.specs.SongLists.{OrderLows, OrderHighs, PatternLows, PatternHighs, OrderBytes, PatternBytes}
-use Rattle.player_memory.specs.SongLists.{first_listed, frequencies_listed}
+use Rattle.player_memory.specs.SongLists.{is_read, unread_size, bytes_in_front, gap_size}
 use Rattle.player_memory.specs.SongLists.{first_number, list_length, list_byte, list_label, IsSongList, HasNumber}
 use Rattle.player_memory.specs.WorkedForms.{sides}
 use Rattle.player_memory.specs.WorkedMemory.{at_1000}
@@ -49,6 +50,18 @@ second_subtune = record {
   three = 0xE1 ∷ 0x00 ∷ 0xD2 ∷ 0x01 ∷ 0xFF ∷ 0x00 ∷ [];
 }
 
+-- each of the fields that need a fact has one in them
+abbrev pub its_facts : Facts
+its_facts = record no_facts {
+  no_hard_restart = true;
+  wave_delay = true;
+  gate_note = true;
+  note_vibrato = true;
+  vibrato_delay = true;
+  note_pulse = true;
+  note_filter = true;
+}
+
 -- A note and a keyoff with the first of them, and a note with the second; with this speed table. Let it ask for the
 -- numbers 5 to 97.
 abbrev pub song_with : List TableRow → PackedSong
@@ -62,7 +75,7 @@ song_with speeds = record {
   speed = speeds;
   features = record { 0 = 0x40A183 };
   features_within = omega arith;
-  facts = record no_facts { no_hard_restart = true; wave_delay = true; gate_note = true };
+  facts = its_facts;
   numbers = record { first = 5; count = 93 };
   numbers_within = omega arith;
 }
@@ -190,7 +203,34 @@ plain_layout = record list_layout {
   holds = λ condition. false;
 }
 
--- ---- where frequencies begin
+-- ---- which fields are read
+
+abbrev pub with_facts : Facts → PackedSong
+with_facts facts = record worked_song { facts = facts }
+
+-- whether each of the nine is, and a tenth, which there isn't; and the bytes of the others, of two instruments
+abbrev pub reads_of : PackedSong → List Bool × ℕ
+reads_of packed = (map (is_read packed) (range_with_len 0 10), unread_size packed)
+
+pub record ReadFieldsAreWorked : Type 0 where
+  pub all : reads_of worked_song
+      ≡ (true ∷ true ∷ true ∷ true ∷ true ∷ true ∷ true ∷ true ∷ true ∷ false ∷ [], 0)
+  pub none : reads_of (with_facts no_facts)
+      ≡ (true ∷ true ∷ true ∷ false ∷ false ∷ false ∷ false ∷ true ∷ true ∷ false ∷ [], 8)
+  -- for each of these facts its own field
+  pub no_pulse : reads_of (with_facts (record its_facts { note_pulse = false }))
+      ≡ (true ∷ true ∷ true ∷ false ∷ true ∷ true ∷ true ∷ true ∷ true ∷ false ∷ [], 2)
+  pub no_filter : reads_of (with_facts (record its_facts { note_filter = false }))
+      ≡ (true ∷ true ∷ true ∷ true ∷ false ∷ true ∷ true ∷ true ∷ true ∷ false ∷ [], 2)
+  pub no_vibrato : reads_of (with_facts (record its_facts { note_vibrato = false }))
+      ≡ (true ∷ true ∷ true ∷ true ∷ true ∷ false ∷ true ∷ true ∷ true ∷ false ∷ [], 2)
+  pub no_delay : reads_of (with_facts (record its_facts { vibrato_delay = false }))
+      ≡ (true ∷ true ∷ true ∷ true ∷ true ∷ true ∷ false ∷ true ∷ true ∷ false ∷ [], 2)
+  -- in front of the frequencies there are as many fewer bytes
+  pub in_front : bytes_in_front worked_song ≡ 92
+  pub in_front_of_fewer : bytes_in_front (with_facts no_facts) ≡ 84
+
+-- ---- gaps in front of the frequencies
 
 -- it asks for the numbers from this one on, with these
 abbrev pub asking : (first count : ℕ) → first + count ≤ 129 → PackedSong
@@ -200,14 +240,15 @@ asking first count within = record worked_song {
 }
 
 -- the song has 90 bytes
-pub record FirstNumbersAreWorked : Type 0 where
+pub record GapsAreWorked : Type 0 where
   -- where it asks for none
-  pub none : frequencies_listed (asking 0 0 (omega arith)) ≡ 0
-  -- with 92 bytes in front, and with one more that isn't there
-  pub last : first_listed (asking 92 3 (omega arith)) ≡ 92
-  pub last_count : frequencies_listed (asking 92 3 (omega arith)) ≡ 3
-  pub beyond : first_listed (asking 93 3 (omega arith)) ≡ 92
-  pub beyond_count : frequencies_listed (asking 93 3 (omega arith)) ≡ 4
+  pub none : gap_size (asking 0 0 (omega arith)) ≡ 0
+  -- with 92 bytes in front there is none up to number 92; from 93 on it is one byte more a number
+  pub last : gap_size (asking 92 3 (omega arith)) ≡ 0
+  pub beyond : gap_size (asking 93 3 (omega arith)) ≡ 1
+  pub far : gap_size (asking 128 1 (omega arith)) ≡ 36
+  -- with 84, where four fields of instruments aren't read
+  pub fewer : gap_size (record (asking 92 3 (omega arith)) { facts = no_facts }) ≡ 8
 
 -- ---- as worked
 
@@ -222,15 +263,18 @@ AreAsWorked layout packed [] = Unit {0}
 AreAsWorked layout packed (p ∷ pieces) = IsAsWorked layout packed p × AreAsWorked layout packed pieces
 
 pub record SongListsAreWorked : Type 0 where
-  pub first : FirstNumbersAreWorked
+  pub read : ReadFieldsAreWorked
+  pub gaps : GapsAreWorked
   pub tables : AreAsWorked list_layout worked_song table_pieces
   pub instruments : AreAsWorked list_layout worked_song instrument_pieces
   pub orders : AreAsWorked list_layout worked_song order_pieces
-  -- none of these is one: a field, a subtune, a channel or a pattern too many, or periods that aren't kept
+  -- none of these is one: a field, a subtune, a channel or a pattern too many, a field that isn't read, or periods that
+  -- aren't kept
   pub no_field : ¬ IsSongList list_layout worked_song (Instruments 9)
   pub no_subtune : ¬ IsSongList list_layout worked_song (OrderBytes 2 0)
   pub no_channel : ¬ IsSongList list_layout worked_song (OrderBytes 0 3)
   pub no_pattern : ¬ IsSongList list_layout worked_song (PatternBytes 2)
+  pub no_pulses : ¬ IsSongList list_layout (with_facts no_facts) (Instruments 3)
   pub no_periods : ¬ IsSongList plain_layout plain_song Periods
   -- the numbers of a list at its ends
   pub speed_row_none : HasNumber worked_song (Rights Speed) 0

@@ -14,4 +14,4 @@ pub mod labels;
 mod listed;
 pub mod variables;
 
-pub use listed::listed_numbers;
+pub use listed::{DELAY_BYTE, gap_size, is_read, unread_size};

@@ -1,27 +1,71 @@
-//! Which frequencies are listed.
+//! Which lists of a packed song there are.
 
-ghost use Rattle.std.specs.Prelude.{◌≡◌, ◌≤◌, ◌+◌};
-ghost use Rattle.player_memory.specs.SongLists.{first_listed, frequencies_listed};
+ghost use Rattle.std.specs.Prelude.{◌≡◌, ◌≤◌, ◌<◌, ◌*◌, length};
+ghost use Rattle.player_memory.specs.SongLists.{is_read, unread, unread_size, gap_size};
 
-use asked_numbers::NumberRange;
 use packed_form::PackedSong;
 
-/// The numbers whose frequencies are listed for a packed song: those that it asks for, and lower ones where fewer bytes
-/// stand in front of the frequencies.
-pub fn listed_numbers(packed: &PackedSong) -> NumberRange
-    ensures first { result.first ≡ first_listed packed.now }
-    ensures count { result.count ≡ frequencies_listed packed.now }
-    ensures most { result.first + result.count ≤ 129 }
+/// The number of the byte of an instrument that is its pulse program.
+const PULSE_BYTE: usize = 3;
+
+/// That of its filter program.
+const FILTER_BYTE: usize = 4;
+
+/// That of its vibrato.
+const VIBRATO_BYTE: usize = 5;
+
+/// That of its vibrato's delay.
+pub const DELAY_BYTE: usize = 6;
+
+/// Whether a line of the player may read this byte of an instrument, 0 to 8: some only where the song has an instrument
+/// that needs it.
+pub fn is_read(packed: &PackedSong, field: usize) -> bool
+    requires { field < 9 }
+    ensures { result ≡ is_read packed.now field }
 {
-    let asked = packed.numbers;
-    let front = 2 + packed.size();
-    let first = if front < u32::from(asked.first) {
-        front as u8
-    } else {
-        asked.first
-    };
-    NumberRange {
-        first,
-        count: asked.first + asked.count - first,
+    let facts = &packed.facts;
+    match field {
+        PULSE_BYTE => facts.note_pulse,
+        FILTER_BYTE => facts.note_filter,
+        VIBRATO_BYTE => facts.note_vibrato,
+        DELAY_BYTE => facts.vibrato_delay,
+        _ => true,
     }
+}
+
+/// The bytes of a field of all instruments, where it isn't read.
+fn unread(packed: &PackedSong, field: usize) -> u32
+    requires { field < 9 }
+    ensures size { result ≡ unread packed.now field }
+    ensures within { result ≤ length packed.now.instruments }
+    ensures most { result ≤ 63 }
+{
+    if is_read(packed, field) {
+        0
+    } else {
+        packed.instruments.as_slice().len() as u32
+    }
+}
+
+/// The bytes of instruments that no line of the player reads, and that stand nowhere in an image.
+pub fn unread_size(packed: &PackedSong) -> u32
+    ensures size { result ≡ unread_size packed.now }
+    ensures within { result ≤ 4 * length packed.now.instruments }
+    ensures most { result ≤ 252 }
+{
+    unread(packed, PULSE_BYTE)
+        + unread(packed, FILTER_BYTE)
+        + unread(packed, VIBRATO_BYTE)
+        + unread(packed, DELAY_BYTE)
+}
+
+/// How many zeros stand in front of the frequencies: as many as there are numbers below the first one that the song
+/// asks for, less the two zeros and the bytes that are read of the packed song. The slides of calculated speeds, which
+/// stand in front of them too, aren't counted: a song that has these asks for all numbers from 0 on, so it has no gap.
+pub fn gap_size(packed: &PackedSong) -> u32
+    ensures size { result ≡ gap_size packed.now }
+    ensures most { result ≤ packed.now.numbers.first }
+{
+    let front = 2 + packed.size() - unread_size(packed);
+    u32::from(packed.numbers.first).saturating_sub(front)
 }

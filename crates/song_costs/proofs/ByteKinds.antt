@@ -1,7 +1,7 @@
 -- The kinds of a packed song have the bytes that its song says.
-use Rattle.std.proofs.Common.{◌≡◌, ℕ, ◌+◌, ◌-◌, ◌*◌, List, [], ◌∷◌, map, length, refl}
+use Rattle.std.proofs.Common.{◌≡◌, ℕ, ◌+◌, ◌-◌, ◌*◌, ◌≤◌, List, [], ◌∷◌, map, length, refl, sym}
 use Rattle.std.proofs.Common.{◌∙◌, ap, arith}
-use Rattle.std.specs.List.{filter, sum_by, count_by}
+use Rattle.std.specs.List.{filter, sum_by}
 use Rattle.std.proofs.lemmas.List.{length-map, length-append}
 use Rattle.std.proofs.lemmas.List.Sums.{sum_by-cons, length-filter}
 use Rattle.song_model.specs.declared.orders.Order.{Order}
@@ -13,6 +13,7 @@ use Rattle.song_model.specs.LookUp.{instrument_at, playable_subtunes}
 use Rattle.play_model.specs.declared.options.Options.{Options}
 use Rattle.packed_form.specs.declared.packed_songs.PackedSong.{PackedSong}
 use Rattle.packed_form.specs.Sizes.{list_size, subtune_size, packed_song_size}
+use Rattle.player_memory.specs.SongLists.{unread_size}
 use Rattle.packing_rules.specs.Segments.{ProgramTable, numbers, row_of, keeps}
 use Rattle.packing_rules.specs.ProgramMaps.{retargeted}
 use Rattle.packing_rules.specs.UsedSets.{UsedSets}
@@ -21,11 +22,13 @@ use Rattle.packing_rules.specs.Renumbering.{pulse_programs, filter_programs}
 use Rattle.packing_rules.specs.SongSizes.{order_size, orders_size, rows_size}
 use Rattle.kept_lines.specs.Asked.{asked_by}
 use Rattle.image_parts.specs.CodeParts.{code_length}
-use Rattle.image_parts.specs.Lengths.{slide_bytes, frequency_bytes}
+use Rattle.image_parts.specs.Lengths.{slide_bytes, unread_bytes, read_bytes, read_of, frequency_bytes}
+use Rattle.image_parts.proofs.Laws.{unread_is, read_is}
+use Rattle.player_memory.proofs.Laws.{unread_few}
 use Rattle.song_pack.specs.Packed.{order_byte, order_bytes, packed_subtune, passing_numbers, packed_instrument, IsPacked}
 use Rattle.song_pack.proofs.Laws.{size_is}
 use Rattle.song_costs.specs.declared.costs.Costs.{Costs}
-use Rattle.song_costs.specs.Kinds.{speed_bytes, costs_of}
+use Rattle.song_costs.specs.Kinds.{speed_bytes, instrument_count, costs_of}
 
 order_bytes_are : (number : ℕ → ℕ) (order : Order) → list_size (order_bytes number order) ≡ order_size order
 order_bytes_are number order =
@@ -55,8 +58,8 @@ rows_are table rows are =
     let count = length-filter (keeps table) (numbers (length table.rows)) in
     omega arith
 
-instruments_are : (song : Song) (used : UsedSets) (packed : PackedSong) → IsPacked song used packed →
-    9 * length packed.instruments ≡ 9 * count_by used.instruments (numbers MOST_INSTRUMENTS)
+pub instruments_are : (song : Song) (used : UsedSets) (packed : PackedSong) → IsPacked song used packed →
+    length packed.instruments ≡ instrument_count used
 unfolding passing_numbers
 instruments_are song used packed is =
     let all = ap length is.instruments in
@@ -97,19 +100,46 @@ same_costs : {r r' o o' p p' i i' w w' u u' f f' s s' n n' : ℕ} → r ≡ r' �
     })
 same_costs a b c d e f g h i = rw (a, b, c, d, e, f, g, h, i) refl
 
+-- where each kind has the bytes that were counted, all have those of the image
+pub kinds_add_up : (packed : PackedSong) (slides frequencies : ℕ)
+    {player code patterns count unread wave pulse filters speed size : ℕ} → player ≡ code →
+    patterns ≡ sum_by list_size packed.patterns → count ≡ length packed.instruments →
+    unread ≡ unread_size packed → wave ≡ 2 * length packed.wave → pulse ≡ 2 * length packed.pulse →
+    filters ≡ 2 * length packed.filter → speed ≡ 2 * length packed.speed →
+    size ≡ packed_song_size packed →
+    player + (size - patterns - 9 * count - wave - pulse - filters - speed + patterns + (9 * count - unread) + wave
+    + pulse + filters + (speed + slides) + frequencies)
+    ≡ read_of packed + slides + frequencies + code
+kinds_add_up packed slides frequencies a b c u d e f g h =
+    let read = read_is packed in
+    let few = unread_few packed in
+    sum (sum_by subtune_size packed.subtunes) _ _ _ _ _ _ _ _ _ _ (read_of packed) _ _ (length packed.instruments) a
+    (omega (arith, b, c, d, e, f, g, h)) c (omega (arith, u, few)) (omega (arith, read, u, h))
+  where
+    sum : (orders player code patterns count unread wave pulse filters speed size read slides frequencies
+        instruments : ℕ) → player ≡ code →
+        size ≡ orders + patterns + 9 * count + wave + pulse + filters + speed → count ≡ instruments →
+        unread ≤ 4 * instruments → read ≡ size - unread →
+        player + (size - patterns - 9 * count - wave - pulse - filters - speed + patterns + (9 * count - unread) + wave
+        + pulse + filters + (speed + slides) + frequencies)
+        ≡ read + slides + frequencies + code
+    sum orders player code patterns count unread wave pulse filters speed size read slides frequencies instruments one
+        two three four five = omega (arith, one, two, three, four, five)
+
 -- numbers that were taken from the packed song
 pub costs_are : (song : Song) (used : UsedSets) (packed : PackedSong) (options : Options) → IsPacked song used packed →
-    {player patterns count wave pulse filters speed slides size frequencies : ℕ} → player ≡ code_length (asked_by packed) options →
-    patterns ≡ sum_by list_size packed.patterns → count ≡ length packed.instruments → wave ≡ 2 * length packed.wave →
+    {player patterns count unread wave pulse filters speed slides size frequencies : ℕ} →
+    player ≡ code_length (asked_by packed) options → patterns ≡ sum_by list_size packed.patterns →
+    count ≡ length packed.instruments → unread ≡ unread_size packed → wave ≡ 2 * length packed.wave →
     pulse ≡ 2 * length packed.pulse → filters ≡ 2 * length packed.filter → speed ≡ 2 * length packed.speed →
     slides ≡ slide_bytes (asked_by packed) (length packed.speed) → size ≡ packed_song_size packed →
-    frequencies ≡ frequency_bytes packed.numbers (packed_song_size packed) →
+    frequencies ≡ frequency_bytes packed.numbers (read_of packed) →
     ◌≡◌ {A = Costs}
     (record {
       player = player;
       orders = size - patterns - 9 * count - wave - pulse - filters - speed;
       patterns = patterns;
-      instruments = 9 * count;
+      instruments = 9 * count - unread;
       wave = wave;
       pulse = pulse;
       filter = filters;
@@ -117,19 +147,27 @@ pub costs_are : (song : Song) (used : UsedSets) (packed : PackedSong) (options :
       frequencies = frequencies;
     })
     (costs_of song used (asked_by packed) packed.numbers options)
-costs_are song used packed options is {player} {patterns} {count} {wave} {pulse} {filters} {speed} {slides} {size}
-    {frequencies} a b c d e f g s h n =
+costs_are song used packed options is {player} {patterns} {count} {unread} {wave} {pulse} {filters} {speed} {slides}
+    {size} {frequencies} a b c u d e f g s h n =
     let orders : size - patterns - 9 * count - wave - pulse - filters - speed ≡ sum_by subtune_size packed.subtunes =
     rest_is (sum_by subtune_size packed.subtunes) patterns (9 * count) wave pulse filters speed size (omega arith) in
     same_costs a
     (orders ∙ ap (sum_by subtune_size) is.subtunes ∙ orders_are (pattern_number song used) (playable_subtunes song))
     (b ∙ ap (sum_by list_size) is.patterns)
-    (ap (λ (n : ℕ). 9 * n) c ∙ instruments_are song used packed is)
+    (fewer (c ∙ counted) (u ∙ sym (unread_is packed) ∙ ap (unread_bytes (asked_by packed)) counted))
     (d ∙ rows_are (wave_programs song used) packed.wave is.wave)
     (e ∙ rows_are (pulse_programs song used) packed.pulse is.pulse)
     (f ∙ rows_are (filter_programs song used) packed.filter is.filter)
     (both g s ∙ ap (λ (rows : List TableRow). speed_bytes (asked_by packed) (length rows)) is.speed.rows_are)
-    (n ∙ ap (frequency_bytes packed.numbers) (size_is song used packed is))
+    (n ∙ ap (frequency_bytes packed.numbers)
+    (ap (λ (i : ℕ). read_bytes (asked_by packed) i (packed_song_size packed)) counted
+    ∙ ap (read_bytes (asked_by packed) (instrument_count used)) (size_is song used packed is)))
   where
+    counted : length packed.instruments ≡ instrument_count used
+    counted = instruments_are song used packed is
+
+    fewer : {a b c d : ℕ} → a ≡ c → b ≡ d → 9 * a - b ≡ 9 * c - d
+    fewer x y = rw (x, y) refl
+
     both : {a b c d : ℕ} → a ≡ c → b ≡ d → a + b ≡ c + d
     both x y = rw (x, y) refl

@@ -1,38 +1,38 @@
 -- The kinds add up to the image, and the parts to the player.
-use Rattle.std.proofs.Common.{◌≡◌, ℕ, ◌+◌, ◌*◌, ◌≤◌, List, length, refl, sym, ◌∙◌, ap, subst, arith}
-use Rattle.std.specs.List.{range_with_len, sum_by, count_by}
+use Rattle.std.proofs.Common.{◌≡◌, ℕ, ◌+◌, ◌-◌, ◌*◌, ◌≤◌, List, length, refl, sym, ◌∙◌, ap, subst, arith}
+use Rattle.std.specs.List.{range_with_len, sum_by}
 use Rattle.std.specs.Str.{bytes_eq}
 use Rattle.song_model.specs.declared.tables.TableName.TheVariants.{Speed}
-use Rattle.song_model.specs.declared.instruments.TheConstants.{MOST_INSTRUMENTS}
 use Rattle.song_model.specs.declared.songs.Song.{Song}
 use Rattle.song_model.specs.LookUp.{playable_subtunes}
 use Rattle.play_model.specs.declared.options.Options.{Options}
 use Rattle.asked_numbers.specs.declared.range.NumberRange.{NumberRange}
 use Rattle.packed_form.specs.Sizes.{list_size}
 use Rattle.packing_rules.specs.UsedSets.{UsedSets}
-use Rattle.packing_rules.specs.Segments.{numbers, keeps as stays}
+use Rattle.packing_rules.specs.Segments.{keeps as stays}
 use Rattle.packing_rules.specs.Renumbering.{first_seen, speed_rows, filter_programs, pulse_programs, wave_programs}
 use Rattle.packing_rules.specs.Renumbering.{pattern_texts}
 use Rattle.packing_rules.specs.SongSizes.{orders_size, rows_size, packed_size}
 use Rattle.kept_lines.specs.KeptLines.{keeps}
 use Rattle.image_parts.specs.CodeParts.{always, code_parts, part_length, code_length}
-use Rattle.image_parts.specs.Lengths.{slide_bytes, frequency_bytes}
+use Rattle.image_parts.specs.Lengths.{slide_bytes, unread_bytes, frequency_bytes}
 use Rattle.image_parts.proofs.Laws as image_parts
-use Rattle.song_costs.specs.Kinds.{costs_of, data_bytes}
+use Rattle.song_costs.specs.Kinds.{instrument_count, read_data, costs_of, data_bytes}
 use Rattle.song_costs.specs.CostLaws.{song_size, CostsAddUp, PartsAddUp}
 use Rattle.song_costs.proofs.ToldSums.{DropsNone, dropped_sum, all_below}
 
 -- ---- kinds
 
 -- where the speed table has so many rows, and the slides and the frequencies so many bytes
-sizes_add_up : (orders patterns instruments wave pulse filters rows slides frequencies size : ℕ) →
-    size ≡ orders + instruments + 2 * rows + patterns + (wave + pulse + filters) →
-    orders + patterns + instruments + wave + pulse + filters + (2 * rows + slides) + frequencies
-    ≡ size + slides + frequencies
-sizes_add_up orders patterns instruments wave pulse filters rows slides frequencies size is = omega (arith, is)
+sizes_add_up : (orders patterns instruments unread wave pulse filters rows slides frequencies size : ℕ) →
+    size ≡ orders + 9 * instruments + 2 * rows + patterns + (wave + pulse + filters) → unread ≤ 4 * instruments →
+    orders + patterns + (9 * instruments - unread) + wave + pulse + filters + (2 * rows + slides) + frequencies
+    ≡ size - unread + slides + frequencies
+sizes_add_up orders patterns instruments unread wave pulse filters rows slides frequencies size is few =
+    omega (arith, is, few)
 
 size_is : (song : Song) (used : UsedSets) → packed_size song used
-    ≡ sum_by orders_size (playable_subtunes song) + 9 * count_by used.instruments (numbers MOST_INSTRUMENTS)
+    ≡ sum_by orders_size (playable_subtunes song) + 9 * instrument_count used
     + 2 * length (speed_rows song (used.pointers Speed))
     + sum_by list_size (first_seen bytes_eq (pattern_texts song used))
     + (rows_size stays (wave_programs song used) + rows_size stays (pulse_programs song used)
@@ -43,9 +43,11 @@ size_is song used = refl
 data_adds_up : (song : Song) (used : UsedSets) (asked : ℕ) (range : NumberRange) (options : Options) →
     data_bytes (costs_of song used asked range options) ≡ song_size song used asked range
 data_adds_up song used asked range options =
-    sizes_add_up _ _ _ _ _ _ (length (speed_rows song (used.pointers Speed)))
+    sizes_add_up _ _ (instrument_count used) (unread_bytes asked (instrument_count used)) _ _ _
+    (length (speed_rows song (used.pointers Speed)))
     (slide_bytes asked (length (speed_rows song (used.pointers Speed))))
-    (frequency_bytes range (packed_size song used)) (packed_size song used) (size_is song used)
+    (frequency_bytes range (read_data song used asked)) (packed_size song used) (size_is song used)
+    (image_parts.unread_most asked (instrument_count used))
 
 plus_player : (player bytes size : ℕ) → bytes ≡ size → player + bytes ≡ size + player
 plus_player player bytes size e = omega (arith, e)

@@ -31,7 +31,7 @@ use Rattle.song_places.specs.Places.{IsFirstPlace, IsFirstFactPlace}
 use Rattle.song_places.specs.PartPlaces.{keeps_part, NeedsFor, IsPartPlace}
 use Rattle.song_places.specs.WorkedPlaces.{crossing}
 use Rattle.song_costs.specs.WorkedCosts.{NoteIsWorked, TablesAreCounted, part_cost, IsToldOf, PartsAreWorked}
-use Rattle.song_costs.specs.WorkedCosts.{FactPartsAreWorked, ListIsWorked, OptionsAreWorked}
+use Rattle.song_costs.specs.WorkedCosts.{InstrumentsAreCounted, FactPartsAreWorked, ListIsWorked, OptionsAreWorked}
 use Rattle.song_places.proofs.Laws.{own_places_are_first, fact_places_are_first}
 use Rattle.song_places.proofs.Laws.{transposes_are_worked, portamentos_are_worked, tables_are_worked, risen}
 use Rattle.song_places.proofs.Laws.{gate_notes_are_worked, facts_are_worked, wave_places_are_worked, crossing_first}
@@ -51,11 +51,16 @@ note_is_worked = record {
   once = refl;
 }
 
+pub instruments_are_counted : InstrumentsAreCounted
+unfolding asked kept_set
+instruments_are_counted = record { few = refl; pulse = refl }
+
 pub tables_are_counted : TablesAreCounted
 unfolding packed_text first_row is_closed are_equal first_equal keeps stand_in speed_rows speed_number table_number
     instrument_number pattern_text pattern_texts table_row pattern_at asked kept_set packed_size
     voice_rows shared_rows asks has_byte voice_labels other_labels free_places funk_place variable_count
 tables_are_counted = record {
+  instruments = refl;
   wave = refl;
   pulse = refl;
   filter = refl;

@@ -7,20 +7,19 @@ use Rattle.play_model.specs.declared.options.Options.{Options}
 use Rattle.asked_numbers.specs.declared.range.NumberRange.{NumberRange}
 use Rattle.packing_rules.specs.UsedSets.{UsedSets}
 use Rattle.packing_rules.specs.Renumbering.{speed_rows}
-use Rattle.packing_rules.specs.SongSizes.{packed_size}
 use Rattle.kept_lines.specs.KeptLines.{keeps}
 use Rattle.image_parts.specs.CodeParts.{always, part_length, code_length}
 use Rattle.image_parts.specs.Lengths.{slide_bytes, frequency_bytes}
-use Rattle.song_costs.specs.Kinds.{costs_of, data_bytes, all_bytes}
+use Rattle.song_costs.specs.Kinds.{read_data, costs_of, data_bytes, all_bytes}
 use Rattle.song_costs.specs.declared.kept.TheConstants.{PARTS}
 use Rattle.song_costs.specs.declared.kept.PartCost.{PartCost}
 use Rattle.song_costs.specs.Kept.{AreKeptParts}
 
--- the packed data of a song, its slides and its frequencies
+-- what is read of the packed data of a song, its slides, and its frequencies with the gap in front of them
 abbrev pub song_size : Song → UsedSets → ℕ → NumberRange → ℕ
 song_size song used asked range =
-    packed_size song used + slide_bytes asked (length (speed_rows song (used.pointers Speed)))
-    + frequency_bytes range (packed_size song used)
+    read_data song used asked + slide_bytes asked (length (speed_rows song (used.pointers Speed)))
+    + frequency_bytes range (read_data song used asked)
 
 -- the eight kinds of data add up to these, and with the player to the length of an image
 abbrev pub CostsAddUp : Type 0

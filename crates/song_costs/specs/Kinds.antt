@@ -1,6 +1,7 @@
 -- How many bytes a song takes in a packed file, kind by kind, by this project's own packed form. Orderlists and
--- patterns are counted with two bytes each for their addresses, the speed table with the lists of slides and periods that
--- a song with calculated speeds has, and the player with the zeros in front of that table's sides.
+-- patterns are counted with two bytes each for their addresses, the speed table with the lists of slides and periods
+-- that a song with calculated speeds has, the frequencies with the gap in front of them, the player with the zeros in
+-- front of the speed table's sides, and of the instruments the bytes that are read.
 use Rattle.std.specs.Prelude.{ℕ, ◌+◌, ◌*◌, length, sum_by, count_by}
 use Rattle.std.specs.Str.{bytes_eq}
 use Rattle.song_model.specs.declared.instruments.TheConstants.{MOST_INSTRUMENTS}
@@ -15,12 +16,21 @@ use Rattle.packing_rules.specs.UsedSets.{UsedSets}
 use Rattle.packing_rules.specs.Renumbering.{first_seen, speed_rows, filter_programs, pulse_programs, wave_programs, pattern_texts}
 use Rattle.packing_rules.specs.SongSizes.{orders_size, rows_size, packed_size}
 use Rattle.image_parts.specs.CodeParts.{code_length}
-use Rattle.image_parts.specs.Lengths.{slide_bytes, frequency_bytes}
+use Rattle.image_parts.specs.Lengths.{slide_bytes, read_bytes, frequency_bytes}
 use Rattle.song_costs.specs.declared.costs.Costs.{Costs}
 
 -- two bytes for each row of the speed table, and the slides
 abbrev pub speed_bytes : ℕ → ℕ → ℕ
 speed_bytes asked rows = 2 * rows + slide_bytes asked rows
+
+-- how many instruments are used: each has nine bytes, of which four stand in an image only where one of these needs
+-- them
+abbrev pub instrument_count : UsedSets → ℕ
+instrument_count used = count_by used.instruments (numbers MOST_INSTRUMENTS)
+
+-- what is read of the packed song
+abbrev pub read_data : Song → UsedSets → ℕ → ℕ
+read_data song used asked = read_bytes asked (instrument_count used) (packed_size song used)
 
 -- Patterns with the same text are counted once, and so are programs that are equal. The song asks for this range of
 -- frequencies.
@@ -29,12 +39,12 @@ costs_of song used asked range options = record {
   player = code_length asked options;
   orders = sum_by orders_size (playable_subtunes song);
   patterns = sum_by list_size (first_seen bytes_eq (pattern_texts song used));
-  instruments = 9 * count_by used.instruments (numbers MOST_INSTRUMENTS);
+  instruments = read_bytes asked (instrument_count used) (9 * instrument_count used);
   wave = rows_size keeps (wave_programs song used);
   pulse = rows_size keeps (pulse_programs song used);
   filter = rows_size keeps (filter_programs song used);
   speed = speed_bytes asked (length (speed_rows song (used.pointers Speed)));
-  frequencies = frequency_bytes range (packed_size song used);
+  frequencies = frequency_bytes range (read_data song used asked);
 }
 
 -- those of the song's data

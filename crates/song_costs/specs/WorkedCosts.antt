@@ -46,23 +46,24 @@ note_range = record { first = 48; count = 1 }
 abbrev pub note_costs : Costs
 note_costs = costs_of one_note (note_sets (0 ∷ 1 ∷ [])) (asked note_features note_facts) note_range no_options
 
--- three orderlists of one entry, the patterns 01 90 BE 00 and C0 00, one instrument, two rows in each of two tables;
--- 499 bytes of the player that each image has, 90 and 45 for a pulse and a wave program, 12 for a keyoff, and 13 for an
--- instrument that begins a pulse program; and the frequencies 44 to 48, with 44 bytes in front of them
+-- three orderlists of one entry, the patterns 01 90 BE 00 and C0 00, one instrument, of which neither a filter program
+-- nor a vibrato is read, two rows in each of two tables; 499 bytes of the player that each image has, 90 and 45 for a
+-- pulse and a wave program, 12 for a keyoff, and 13 for an instrument that begins a pulse program; and the frequency of
+-- number 48, with 41 bytes and a gap of seven in front of it
 pub record NoteIsWorked : Type 0 where
   pub each : note_costs ≡ record {
     player = 659;
     orders = 15;
     patterns = 10;
-    instruments = 9;
+    instruments = 6;
     wave = 4;
     pulse = 4;
     filter = 0;
     speed = 0;
-    frequencies = 10;
+    frequencies = 9;
   }
-  pub bytes : data_bytes note_costs ≡ 52
-  pub all : all_bytes note_costs ≡ 711
+  pub bytes : data_bytes note_costs ≡ 48
+  pub all : all_bytes note_costs ≡ 707
   -- without the zeros, and with the frequency of the song's number alone
   pub few : note_costs.player ≢ 657
   pub alone : note_costs.frequencies ≢ 2
@@ -71,6 +72,17 @@ pub record NoteIsWorked : Type 0 where
   -- an equal pattern is stored once, and a note for each of three orderlists isn't
   pub once : (costs_of two_rests (note_sets (0 ∷ 1 ∷ 2 ∷ [])) (asked note_features note_facts) note_range no_options).patterns
       ≡ 10
+
+-- where two instruments are used, these and no third one are counted: with five bytes each where no instrument needs
+-- another, and with six where one begins a pulse program
+abbrev pub two_used : Facts → Costs
+two_used facts =
+    costs_of one_note (record (note_sets (0 ∷ 1 ∷ [])) { instruments = among (1 ∷ 3 ∷ []) }) (asked note_features facts)
+    note_range no_options
+
+pub record InstrumentsAreCounted : Type 0 where
+  pub few : (two_used no_facts).instruments ≡ 10
+  pub pulse : (two_used note_facts).instruments ≡ 12
 
 -- a note of an instrument with two wave rows, three pulse rows, four filter rows and a vibrato
 abbrev pub rich_note : Song
@@ -95,19 +107,24 @@ rich_sets = record (note_sets (0 ∷ 1 ∷ [])) { reached = rich_rows; pointers 
 abbrev pub rich_features : ℕ
 rich_features = note_features + 2 ^ bit_of FilterTable + 2 ^ bit_of InstrumentVibrato
 
+-- and each field of its instrument is read
+abbrev pub rich_facts : Facts
+rich_facts = record note_facts { note_filter = true; note_vibrato = true; vibrato_delay = true }
+
 abbrev pub rich_costs : Costs
-rich_costs = costs_of rich_note rich_sets (asked rich_features note_facts) note_range no_options
+rich_costs = costs_of rich_note rich_sets (asked rich_features rich_facts) note_range no_options
 
 -- the same where the vibrato's speed is calculated from the note
 abbrev pub calculated_costs : Costs
 calculated_costs =
     costs_of (record rich_note { speed = sides 0x84 2 ∷ [] }) rich_sets
-    (asked (rich_features + 2 ^ bit_of NoteDependent) note_facts) (record { first = 0; count = 50 }) no_options
+    (asked (rich_features + 2 ^ bit_of NoteDependent) rich_facts) (record { first = 0; count = 50 }) no_options
 
 -- two bytes for each row, in the kind of its own table, and for the one frequency, since 56 bytes stand in front of it;
 -- and where speeds are calculated three more for the row of the speed table and for row 0, among those of the table and
 -- not in the player, and two for each frequency up to that of number 49
 pub record TablesAreCounted : Type 0 where
+  pub instruments : rich_costs.instruments ≡ 9
   pub wave : rich_costs.wave ≡ 4
   pub pulse : rich_costs.pulse ≡ 6
   pub filter : rich_costs.filter ≡ 8

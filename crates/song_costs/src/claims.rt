@@ -2,7 +2,8 @@
 
 ghost use Rattle.song_costs.specs.CostLaws.{CostsAddUp, PartsAddUp, KeptPartsAddUp, KeptPartsAreOne};
 ghost use Rattle.song_costs.specs.Names.{NamesAreShort};
-ghost use Rattle.song_costs.specs.WorkedCosts.{NoteIsWorked, TablesAreCounted, PartsAreWorked, FactPartsAreWorked};
+ghost use Rattle.song_costs.specs.WorkedCosts.{NoteIsWorked, InstrumentsAreCounted, TablesAreCounted, PartsAreWorked};
+ghost use Rattle.song_costs.specs.WorkedCosts.{FactPartsAreWorked};
 ghost use Rattle.song_costs.specs.WorkedCosts.{ListIsWorked, OptionsAreWorked};
 
 /// The kinds of data add up to the packed size, the slides and the frequencies, and with the player to the length of an image; and the
@@ -23,11 +24,12 @@ pub fn part_names_are_short()
     ensures { NamesAreShort }
 {}
 
-/// The bytes of a song of one note, kind by kind, and of one whose four tables have different numbers of rows; and
-/// parts that are told, with others beside them that aren't.
-#[tactic(auto, using(crate::proofs::WorkedCosts::note_is_worked, crate::proofs::WorkedCosts::tables_are_counted, crate::proofs::WorkedCosts::parts_are_worked, crate::proofs::WorkedCosts::fact_parts_are_worked, crate::proofs::WorkedCosts::list_is_worked, crate::proofs::WorkedCosts::options_are_worked))]
+/// The bytes of a song of one note, kind by kind, those of two instruments, and those of a song whose four tables have
+/// different numbers of rows; and parts that are told, with others beside them that aren't.
+#[tactic(auto, using(crate::proofs::WorkedCosts::note_is_worked, crate::proofs::WorkedCosts::instruments_are_counted, crate::proofs::WorkedCosts::tables_are_counted, crate::proofs::WorkedCosts::parts_are_worked, crate::proofs::WorkedCosts::fact_parts_are_worked, crate::proofs::WorkedCosts::list_is_worked, crate::proofs::WorkedCosts::options_are_worked))]
 pub fn worked_costs()
     ensures note { NoteIsWorked }
+    ensures instruments { InstrumentsAreCounted }
     ensures tables { TablesAreCounted }
     ensures parts { PartsAreWorked }
     ensures facts { FactPartsAreWorked }

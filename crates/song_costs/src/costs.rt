@@ -14,6 +14,7 @@ ghost use Rattle.song_costs.specs.Kinds.{costs_of, all_bytes};
 use image_parts::{code_length, frequency_bytes, slide_bytes};
 use kept_lines::asked_by;
 use packed_form::{PackedPatternList, PackedSong};
+use player_memory::unread_size;
 use song_model::Table;
 
 /// How many bytes a song takes in a packed file, kind by kind.
@@ -25,7 +26,7 @@ pub struct Costs {
     pub orders: u32,
     /// The patterns, with two bytes for the address of each.
     pub patterns: u32,
-    /// The instruments, nine bytes each.
+    /// The instruments: of each the bytes that are read, five, and one more for each field that some instrument needs.
     pub instruments: u32,
     /// The rows of the wave table, two bytes each.
     pub wave: u32,
@@ -35,7 +36,7 @@ pub struct Costs {
     pub filter: u32,
     /// Those of the speed table, and of the slides and periods of a song with calculated speeds.
     pub speed: u32,
-    /// The frequencies that are listed, two bytes each.
+    /// The frequencies, two bytes each, and the gap in front of them.
     pub frequencies: u32,
 }
 
@@ -88,7 +89,8 @@ pub fn costs_by_kind(packed: &PackedSong, code: &[u8]) -> Costs
     ensures length { all_bytes result ≡ bytes_of_image packed.now code.now }
 {
     let patterns = patterns_bytes(&packed.patterns);
-    let instruments = 9 * packed.instruments.as_slice().len() as u32;
+    let fields = 9 * packed.instruments.as_slice().len() as u32;
+    let instruments = fields - unread_size(packed);
     let wave = rows_bytes(&packed.wave);
     let pulse = rows_bytes(&packed.pulse);
     let filter = rows_bytes(&packed.filter);
@@ -96,7 +98,7 @@ pub fn costs_by_kind(packed: &PackedSong, code: &[u8]) -> Costs
     let slides = slide_bytes(asked_by(packed), packed.speed.as_slice().len() as u32);
     Costs {
         player: code_length(code),
-        orders: packed.size() - patterns - instruments - wave - pulse - filter - speed,
+        orders: packed.size() - patterns - fields - wave - pulse - filter - speed,
         patterns,
         instruments,
         wave,

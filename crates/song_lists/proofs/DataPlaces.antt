@@ -6,7 +6,7 @@ use Rattle.std.proofs.lemmas.List.{get_or_default}
 use Rattle.std.proofs.lemmas.List.Elements.{All-weaker, All-append, All-from_recursion}
 use Rattle.packed_form.specs.declared.packed_songs.PackedSong.{PackedSong}
 use Rattle.player_memory.specs.declared.labels.TheConstants.{ORDERS, PATTERNS}
-use Rattle.player_memory.specs.SongLists.{Instruments, frequencies_listed}
+use Rattle.player_memory.specs.SongLists.{Instruments, gap_size}
 use Rattle.song_lists.specs.declared.marks.Mark.{Mark}
 use Rattle.song_lists.specs.DataLists.{all_orders, slides_low_place, slides_high_place, periods_place, orders_place}
 use Rattle.song_lists.specs.DataLists.{patterns_place, places_from, order_places, pattern_places, data_bytes, own_mark}
@@ -14,7 +14,7 @@ use Rattle.song_lists.specs.DataLists.{frequencies_place, bytes_back, frequency_
 use Rattle.song_lists.specs.DataLists.{address_marks, slide_marks, list_marks, data_marks}
 use Rattle.song_lists.specs.ListLaws.{lists_size}
 use Rattle.song_lists.proofs.Pieces.{places_count, size_within, place_at}
-use Rattle.song_lists.proofs.Lists.{whole_length, texts_end, frequency_labels}
+use Rattle.song_lists.proofs.Lists.{field_sums, whole_length, texts_end, frequency_labels}
 use Rattle.song_lists.proofs.DataMarks.{marks_between, all_of_three}
 
 abbrev IsUpTo : ℕ → Mark → Type 0
@@ -58,6 +58,7 @@ behind_frequencies dependent packed =
 others_within : (dependent : Bool) (packed : PackedSong) →
     All (IsUpTo (orders_place dependent packed)) (behind_frequencies dependent packed)
 others_within dependent packed =
+    let sums = field_sums packed in
     let addresses : Each dependent packed (behind_instruments dependent packed) = (
       omega arith,
       (
@@ -99,10 +100,10 @@ frequencies_within : (dependent : Bool) (packed : PackedSong) (start : ℕ) →
 frequencies_within dependent packed start =
     let labels = frequency_labels dependent packed in
     let whole = whole_length dependent packed start in
-    let low = one_before (frequencies_place dependent packed) (bytes_back packed) (frequencies_listed packed) 0
+    let low = one_before (frequencies_place dependent packed) (bytes_back packed) packed.numbers.count 0
     (length (data_bytes dependent packed start)) labels.back labels.some (omega arith) whole in
-    let high = one_before (frequencies_place dependent packed) (bytes_back packed) (frequencies_listed packed)
-    (frequencies_listed packed) (length (data_bytes dependent packed start)) labels.back labels.some (omega arith)
+    let high = one_before (frequencies_place dependent packed) (bytes_back packed) packed.numbers.count
+    packed.numbers.count (length (data_bytes dependent packed start)) labels.back labels.some (omega arith)
     whole in
     let next_low = without _ _ _ low in
     All-from_recursion (IsUpTo (length (data_bytes dependent packed start))) (frequency_marks dependent packed)
@@ -121,13 +122,14 @@ lists_within dependent packed start =
     (behind_frequencies dependent packed) (frequencies_within dependent packed start)
     (All-weaker (IsUpTo (orders_place dependent packed)) (IsUpTo (length (data_bytes dependent packed start)))
     (λ mark up_to. reaches mark.place (orders_place dependent packed) (length (concat (all_orders packed)))
-    (length (concat packed.patterns)) (frequencies_listed packed) (length (data_bytes dependent packed start))
+    (length (concat packed.patterns)) (gap_size packed) packed.numbers.count
+    (length (data_bytes dependent packed start))
     (whole_length dependent packed start) up_to)
     (behind_frequencies dependent packed) (others_within dependent packed))
   where
-    reaches : (place from orders patterns listed whole : ℕ) → whole ≡ from + orders + patterns + 2 * listed →
-        place ≤ from → place ≤ whole
-    reaches place from orders patterns listed whole e le = omega (arith, e, le)
+    reaches : (place from orders patterns gap listed whole : ℕ) →
+        whole ≡ from + orders + patterns + gap + 2 * listed → place ≤ from → place ≤ whole
+    reaches place from orders patterns gap listed whole e le = omega (arith, e, le)
 
 -- lists one behind the other stand up to the last one's end
 places_up_to : (from : ℕ) (lists : List (List ℕ)) (k : ℕ) → k < length (places_from from lists) →

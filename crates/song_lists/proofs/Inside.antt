@@ -18,7 +18,7 @@ use Rattle.player_memory.specs.Fetching.{place_before}
 use Rattle.player_memory.specs.SongLists.{SongList, FrequencyLows, FrequencyHighs, Lefts, Rights, Periods, Instruments}
 use Rattle.player_memory.specs.SongLists.{OrderLows, OrderHighs, PatternLows, PatternHighs, OrderBytes, PatternBytes}
 use Rattle.player_memory.specs.SongLists.{IsSongList, HasNumber, SlidesStand, list_label, list_length, first_number}
-use Rattle.player_memory.specs.SongLists.{first_listed, frequencies_listed, slide_rows}
+use Rattle.player_memory.specs.SongLists.{slide_rows}
 use Rattle.player_memory.specs.Holds.{AreNext}
 use Rattle.song_lists.specs.DataLists.{speed_rights_place, speed_lefts_place, slides_low_place, slides_high_place}
 use Rattle.song_lists.specs.DataLists.{periods_place, orders_place, patterns_place, all_orders, order_places}
@@ -98,12 +98,12 @@ pattern_behind dependent packed pattern inside =
     omega (arith, place_at (patterns_place dependent packed) packed.patterns pattern inside)
 
 -- the frequencies, where there are some, stand behind the patterns
-frequency_beside : (packed : PackedSong) (before i : ℕ) → i < frequencies_listed packed →
+frequency_beside : (packed : PackedSong) (before i : ℕ) → i < packed.numbers.count →
     2 + 2 * length packed.speed + 2 * slide_rows packed
-    ≤ frequencies_place true packed + before - bytes_back packed + first_listed packed + i
+    ≤ frequencies_place true packed + before - bytes_back packed + packed.numbers.first + i
 frequency_beside packed before i below =
     let labels = frequency_labels true packed in
-    behind (frequencies_place true packed) (bytes_back packed) (first_listed packed) (frequencies_listed packed) before i
+    behind (frequencies_place true packed) (bytes_back packed) packed.numbers.first packed.numbers.count before i
     (2 + 2 * length packed.speed + 2 * slide_rows packed) labels.back labels.first below (omega arith)
   where
     behind : (place back first listed before i from : ℕ) → back ≤ place → (1 ≤ listed → back ≡ first) → i < listed →
@@ -115,12 +115,13 @@ frequency_beside packed before i below =
 list_beside : (packed : PackedSong) (list : SongList) (i : ℕ) → IsWritten true packed list →
     i < list_length packed list → IsBeside packed (label_place true packed list + first_number packed list + i)
 list_beside packed FrequencyLows i is below =
-    inr (subst (λ (p : ℕ). 2 + 2 * length packed.speed + 2 * slide_rows packed ≤ p - bytes_back packed + first_listed packed + i)
+    inr (subst (λ (p : ℕ). 2 + 2 * length packed.speed + 2 * slide_rows packed
+    ≤ p - bytes_back packed + packed.numbers.first + i)
     (no_more (frequencies_place true packed)) (frequency_beside packed 0 i below))
   where
     no_more : (place : ℕ) → place + 0 ≡ place
     no_more place = omega arith
-list_beside packed FrequencyHighs i is below = inr (frequency_beside packed (frequencies_listed packed) i below)
+list_beside packed FrequencyHighs i is below = inr (frequency_beside packed packed.numbers.count i below)
 list_beside packed (Lefts Speed) i is below = inl (omega arith)
 list_beside packed (Rights Speed) i is below = inl (omega arith)
 list_beside packed (Lefts Wave) i is below = inr (omega arith)

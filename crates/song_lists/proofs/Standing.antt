@@ -1,5 +1,5 @@
 -- The lists of a packed song in memory: each at its label, byte for byte.
-use Rattle.std.proofs.Common.{◌≡◌, ℕ, zero, suc, ◌+◌, ◌-◌, ◌*◌, ◌/◌, ◌%◌, ◌<◌, Bool}
+use Rattle.std.proofs.Common.{◌≡◌, ℕ, zero, suc, ◌+◌, ◌-◌, ◌*◌, ◌/◌, ◌%◌, ◌<◌, Bool, true, if◌then◌else◌}
 use Rattle.std.proofs.Common.{List, [], ◌∷◌, ◌++◌, length, get_or, map, replicate, refl, sym, ap, ◌∙◌, arith}
 use Rattle.std.proofs.Common.{Contains, slice_index}
 use Rattle.std.proofs.lemmas.Bool.{ne_eqb}
@@ -20,15 +20,16 @@ use Rattle.player_memory.specs.declared.labels.TheConstants.{ORDERS, PATTERNS}
 use Rattle.player_memory.specs.Forms.{stored}
 use Rattle.player_memory.specs.SongLists.{SongList, FrequencyLows, FrequencyHighs, Lefts, Rights, Periods, Instruments}
 use Rattle.player_memory.specs.SongLists.{OrderLows, OrderHighs, PatternLows, PatternHighs, OrderBytes, PatternBytes}
-use Rattle.player_memory.specs.SongLists.{list_label, list_length, list_byte, first_number, instrument_byte}
-use Rattle.player_memory.specs.SongLists.{order_bytes, pattern_bytes, first_listed, frequencies_listed}
+use Rattle.player_memory.specs.SongLists.{is_read, list_label, list_length, list_byte, first_number, instrument_byte}
+use Rattle.player_memory.specs.SongLists.{order_bytes, pattern_bytes}
+use Rattle.player_memory.proofs.Laws.{read_below}
 use Rattle.song_lists.specs.declared.marks.Mark.{Mark}
 use Rattle.song_lists.specs.Marks.{mark_at}
 use Rattle.song_lists.specs.DataLists.{frequency_lows, frequency_highs, lefts, rights, stored_rows}
-use Rattle.song_lists.specs.DataLists.{instrument_bytes, order_places, pattern_places, patterns_place}
+use Rattle.song_lists.specs.DataLists.{field_bytes, instrument_bytes, order_places, pattern_places, patterns_place}
 use Rattle.song_lists.specs.DataLists.{label_place, marks_from, list_marks, data_marks, IsDataLayout}
 use Rattle.song_lists.proofs.Pieces.{places_count}
-use Rattle.song_lists.proofs.Lists.{lengths, lows_count, highs_count, order_places_count}
+use Rattle.song_lists.proofs.Lists.{lengths, field_count, lows_count, highs_count, order_places_count}
 use Rattle.song_lists.proofs.Stretches.{written, IsWritten, below_9}
 
 -- ---- addresses
@@ -165,7 +166,7 @@ begins_at layout dependent packed start PatternLows laid is =
 begins_at layout dependent packed start PatternHighs laid is =
     fixed_at layout dependent packed start 29 no_mark laid (omega arith)
 begins_at layout dependent packed start (Instruments field) laid is =
-    instruments_begin layout dependent packed start field laid is
+    instruments_begin layout dependent packed start field laid (read_below packed field is)
 begins_at layout dependent packed start (OrderBytes subtune channel) laid is =
     order_at_label layout dependent packed start (3 * subtune + channel) laid (omega arith)
 begins_at layout dependent packed start (PatternBytes pattern) laid is =
@@ -188,7 +189,7 @@ has_length dependent packed start (Rights Speed) is = let each = lengths depende
 has_length dependent packed start Periods is =
     let count = length-map packed.speed (λ (row : TableRow). row.left % 128) in omega arith
 has_length dependent packed start (Instruments field) is =
-    length-map packed.instruments (λ i. instrument_byte field (unpacked_instrument i))
+    field_count packed field ∙ ap (λ (z : Bool). if z then length packed.instruments else 0) is
 has_length dependent packed start OrderLows is = (lengths dependent packed start).order_lows
 has_length dependent packed start OrderHighs is = (lengths dependent packed start).order_highs
 has_length dependent packed start PatternLows is = (lengths dependent packed start).pattern_lows
@@ -196,17 +197,17 @@ has_length dependent packed start PatternHighs is = (lengths dependent packed st
 has_length dependent packed start (OrderBytes subtune channel) is = refl
 has_length dependent packed start (PatternBytes pattern) is = refl
 
-low_at : (packed : PackedSong) (i number : ℕ) → i < frequencies_listed packed → number ≡ first_listed packed + i →
+low_at : (packed : PackedSong) (i number : ℕ) → i < packed.numbers.count → number ≡ packed.numbers.first + i →
     get_or (frequency_lows packed) i 0 ≡ freq number % 256
 unfolding frequency_lows
 low_at packed i number inside e =
-    get_or-map-range_with_len (λ n. freq n % 256) (first_listed packed) (frequencies_listed packed) i number 0 inside (sym e)
+    get_or-map-range_with_len (λ n. freq n % 256) packed.numbers.first packed.numbers.count i number 0 inside (sym e)
 
-high_at : (packed : PackedSong) (i number : ℕ) → i < frequencies_listed packed → number ≡ first_listed packed + i →
+high_at : (packed : PackedSong) (i number : ℕ) → i < packed.numbers.count → number ≡ packed.numbers.first + i →
     get_or (frequency_highs packed) i 0 ≡ freq number / 256
 unfolding frequency_highs
 high_at packed i number inside e =
-    get_or-map-range_with_len (λ n. freq n / 256) (first_listed packed) (frequencies_listed packed) i number 0 inside (sym e)
+    get_or-map-range_with_len (λ n. freq n / 256) packed.numbers.first packed.numbers.count i number 0 inside (sym e)
 
 row_at : (song : Song) (name : TableName) (n i : ℕ) → n ≡ suc i →
     table_row song name n ≡ get_or (table_of song name) i zero_table_row
@@ -243,10 +244,12 @@ stored_instrument packed i inside =
     let test = ne_eqb (i + 1) 0 (omega arith) in
     rw (test, minus) (get_or-map unpacked_instrument packed.instruments i no_instrument zero_instrument inside)
 
-instrument_byte_at : (packed : PackedSong) (field i : ℕ) → i < length packed.instruments →
+instrument_byte_at : (packed : PackedSong) (field i : ℕ) → is_read packed field ≡ true →
+    i < length packed.instruments →
     get_or (instrument_bytes packed field) i 0 ≡ instrument_byte field (instrument_at (unpacked_song packed) (i + 1))
-instrument_byte_at packed field i inside =
-    get_or-map (λ (instrument : PackedInstrument). instrument_byte field (unpacked_instrument instrument))
+instrument_byte_at packed field i is inside =
+    ap (λ (z : Bool). get_or (if z then field_bytes packed field else []) i 0) is
+    ∙ get_or-map (λ (instrument : PackedInstrument). instrument_byte field (unpacked_instrument instrument))
     packed.instruments i no_instrument 0 inside
     ∙ ap (instrument_byte field) (sym (stored_instrument packed i inside))
 
@@ -328,7 +331,7 @@ has_bytes layout dependent packed start Periods i number laid is inside at =
     ∙ ap (λ (n : ℕ). (table_row (unpacked_song packed) Speed n).left % 128) same
 has_bytes layout dependent packed start (Instruments field) i number laid is inside at =
     let same : i + 1 ≡ number = omega arith in
-    instrument_byte_at packed field i inside
+    instrument_byte_at packed field i is inside
     ∙ ap (λ (n : ℕ). instrument_byte field (instrument_at (unpacked_song packed) n)) same
 has_bytes layout dependent packed start OrderLows i number laid is inside at =
     let whole : layout.address (ORDERS + number) - 0 ≡ layout.address (ORDERS + number) = omega arith in

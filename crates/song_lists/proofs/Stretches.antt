@@ -1,7 +1,7 @@
 -- Where each list of a packed song stands in the bytes of all.
 use Rattle.std.proofs.Common.{◌≡◌, ℕ, zero, suc, ◌+◌, ◌-◌, ◌*◌, ◌<◌, ◌≤◌, inl, inr, Bool, true, false, List}
 use Rattle.std.proofs.Common.{[], ◌∷◌, ◌++◌, length}
-use Rattle.std.proofs.Common.{get_or, refl, sym, ◌∙◌, subst, arith}
+use Rattle.std.proofs.Common.{get_or, refl, sym, ap, ◌∙◌, subst, arith}
 use Rattle.std.specs.List.{concat}
 use Rattle.std.proofs.lemmas.Bool.{cases_lt}
 use Rattle.song_model.specs.declared.tables.TableName.TheVariants.{Wave, Pulse, Filter, Speed}
@@ -10,14 +10,16 @@ use Rattle.packed_form.specs.declared.packed_songs.PackedSong.{PackedSong}
 use Rattle.player_memory.specs.SongLists.{SongList, FrequencyLows, FrequencyHighs, Lefts, Rights, Periods, Instruments}
 use Rattle.player_memory.specs.SongLists.{OrderLows, OrderHighs, PatternLows, PatternHighs, OrderBytes, PatternBytes}
 use Rattle.player_memory.specs.SongLists.{first_number, order_bytes, pattern_bytes, channel_bytes, no_subtune}
-use Rattle.player_memory.specs.SongLists.{first_listed, frequencies_listed, slide_rows}
+use Rattle.player_memory.specs.SongLists.{is_read, gap_size, slide_rows}
+use Rattle.player_memory.proofs.Laws.{read_below}
 use Rattle.song_lists.specs.DataLists.{frequency_lows, frequency_highs, lefts, rights, stored_rows, periods}
 use Rattle.song_lists.specs.DataLists.{instrument_bytes, all_orders, orders_of, lows, highs, periods_place}
 use Rattle.song_lists.specs.DataLists.{orders_place, patterns_place, order_places, pattern_places, data_bytes}
-use Rattle.song_lists.specs.DataLists.{frequencies_place, bytes_back, frequency_lists, label_place}
+use Rattle.song_lists.specs.DataLists.{frequencies_place, bytes_back, gap_bytes, frequency_lists, label_place}
 use Rattle.song_lists.proofs.Pieces.{StandsIn, size_before, piece_stands, stands_before, stands_after, place_at}
 use Rattle.song_lists.proofs.Pieces.{order_at, orders_count}
-use Rattle.song_lists.proofs.Lists.{fixed_lists, own_lists, lengths, fixed_size, lows_count, highs_count, whole_length}
+use Rattle.song_lists.proofs.Lists.{fixed_lists, own_lists, lengths, field_sums, gap_count, fixed_size, lows_count}
+use Rattle.song_lists.proofs.Lists.{highs_count, whole_length}
 use Rattle.song_lists.proofs.Lists.{frequency_labels}
 
 -- ---- the bytes of a list as they are read: the speed table from its row 0 on
@@ -45,7 +47,7 @@ written dependent packed start (PatternBytes pattern) = pattern_bytes packed pat
 -- a list of the song's, as the flag says
 abbrev pub IsWritten : Bool → PackedSong → SongList → Type 0
 IsWritten dependent packed Periods = dependent ≡ true
-IsWritten dependent packed (Instruments field) = field < 9
+IsWritten dependent packed (Instruments field) = is_read packed field ≡ true
 IsWritten dependent packed (OrderBytes subtune channel) = (subtune < length packed.subtunes) × (channel < 3)
 IsWritten dependent packed (PatternBytes pattern) = pattern < length packed.patterns
 IsWritten dependent packed list = Unit {0}
@@ -81,6 +83,7 @@ instruments_stand : (dependent : Bool) (packed : PackedSong) (start field : ℕ)
     (instrument_bytes packed field)
 instruments_stand dependent packed start =
     let each = lengths dependent packed start in
+    let sums = field_sums packed in
     below_9
     (λ field. StandsIn (data_bytes dependent packed start) (label_place dependent packed (Instruments field) + 1)
     (instrument_bytes packed field))
@@ -163,8 +166,8 @@ patterns_stand dependent packed start pattern inside =
 -- ---- frequencies
 
 -- behind the patterns
-last_stands : (dependent : Bool) (packed : PackedSong) (start k place : ℕ) → k < 2 →
-    size_before k (frequency_lists packed) ≡ place →
+last_stands : (dependent : Bool) (packed : PackedSong) (start k place : ℕ) → k < 3 →
+    size_before k (frequency_lists packed) ≡ gap_size packed + place →
     StandsIn (data_bytes dependent packed start) (frequencies_place dependent packed + place)
     (get_or (frequency_lists packed) k [])
 last_stands dependent packed start k place inside e =
@@ -173,7 +176,7 @@ last_stands dependent packed start k place inside e =
     + size_before k (frequency_lists packed)))) (frequencies_place dependent packed + place)
     (get_or (frequency_lists packed) k []) (get_or (frequency_lists packed) k [])
     (sum (orders_place dependent packed) (length (concat (all_orders packed))) (length (concat packed.patterns))
-    (size_before k (frequency_lists packed)) place e) refl
+    (size_before k (frequency_lists packed)) (gap_size packed) place e) refl
     (own_stands dependent packed start (length (concat (all_orders packed)) + (length (concat packed.patterns)
     + size_before k (frequency_lists packed))) (get_or (frequency_lists packed) k [])
     (stands_after (all_orders packed) (packed.patterns ++ frequency_lists packed)
@@ -181,9 +184,9 @@ last_stands dependent packed start k place inside e =
     (stands_after packed.patterns (frequency_lists packed) (size_before k (frequency_lists packed))
     (get_or (frequency_lists packed) k []) (piece_stands (frequency_lists packed) k inside))))
   where
-    sum : (orders texts patterns before place : ℕ) → before ≡ place →
-        orders + (texts + (patterns + before)) ≡ orders + texts + patterns + place
-    sum orders texts patterns before place e = omega (arith, e)
+    sum : (orders texts patterns before gap place : ℕ) → before ≡ gap + place →
+        orders + (texts + (patterns + before)) ≡ orders + texts + patterns + gap + place
+    sum orders texts patterns before gap place e = omega (arith, e)
 
 -- a list of nothing stands wherever the bytes reach
 nothing_stands : (whole piece : List ℕ) (place : ℕ) → length piece ≡ 0 → place ≤ length whole →
@@ -202,26 +205,26 @@ to_end : (place back first listed before whole : ℕ) → first ≤ back → bac
     whole ≡ place + 2 * listed → place + before - back + first ≤ whole
 to_end place back first listed before whole least within few e = omega (arith, least, within, few, e)
 
-frequencies_stand : (dependent : Bool) (packed : PackedSong) (start k before : ℕ) → k < 2 →
-    size_before k (frequency_lists packed) ≡ before → before ≤ frequencies_listed packed →
-    length (get_or (frequency_lists packed) k []) ≡ frequencies_listed packed →
+frequencies_stand : (dependent : Bool) (packed : PackedSong) (start k before : ℕ) → k < 3 →
+    size_before k (frequency_lists packed) ≡ gap_size packed + before → before ≤ packed.numbers.count →
+    length (get_or (frequency_lists packed) k []) ≡ packed.numbers.count →
     StandsIn (data_bytes dependent packed start)
-    (frequencies_place dependent packed + before - bytes_back packed + first_listed packed)
+    (frequencies_place dependent packed + before - bytes_back packed + packed.numbers.first)
     (get_or (frequency_lists packed) k [])
 frequencies_stand dependent packed start k before inside e few count =
-    let labels = frequency_labels dependent packed in elim (cases_lt 0 (frequencies_listed packed)) [
+    let labels = frequency_labels dependent packed in elim (cases_lt 0 packed.numbers.count) [
       | inl some ↦
           subst
           (λ (p : ℕ). StandsIn (data_bytes dependent packed start) p (get_or (frequency_lists packed) k []))
-          (sym (from_label (frequencies_place dependent packed) (bytes_back packed) (first_listed packed)
-          (frequencies_listed packed) before labels.back labels.first some))
+          (sym (from_label (frequencies_place dependent packed) (bytes_back packed) packed.numbers.first
+          packed.numbers.count before labels.back labels.first some))
           (last_stands dependent packed start k before inside e)
       | inr none ↦
           nothing_stands (data_bytes dependent packed start) (get_or (frequency_lists packed) k [])
-          (frequencies_place dependent packed + before - bytes_back packed + first_listed packed)
-          (count ∙ none_left (frequencies_listed packed) none)
-          (to_end (frequencies_place dependent packed) (bytes_back packed) (first_listed packed)
-          (frequencies_listed packed) before (length (data_bytes dependent packed start)) labels.least labels.back few
+          (frequencies_place dependent packed + before - bytes_back packed + packed.numbers.first)
+          (count ∙ none_left packed.numbers.count none)
+          (to_end (frequencies_place dependent packed) (bytes_back packed) packed.numbers.first
+          packed.numbers.count before (length (data_bytes dependent packed start)) labels.least labels.back few
           (whole_length dependent packed start))
     ]
   where
@@ -263,19 +266,21 @@ pub list_stands : (dependent : Bool) (packed : PackedSong) (start : ℕ) (list :
     (written dependent packed start list)
 list_stands dependent packed start FrequencyLows is =
     subst
-    (λ (p : ℕ). StandsIn (data_bytes dependent packed start) (p - bytes_back packed + first_listed packed)
+    (λ (p : ℕ). StandsIn (data_bytes dependent packed start) (p - bytes_back packed + packed.numbers.first)
     (frequency_lows packed)) (no_more (frequencies_place dependent packed))
-    (frequencies_stand dependent packed start 0 0 (omega arith) refl (omega arith) (lows_count packed))
+    (frequencies_stand dependent packed start 1 0 (omega arith) (ap (λ (gap : ℕ). gap + 0) (gap_count packed))
+    (omega arith) (lows_count packed))
   where
     no_more : (place : ℕ) → place + 0 ≡ place
     no_more place = omega arith
 list_stands dependent packed start FrequencyHighs is =
-    frequencies_stand dependent packed start 1 (frequencies_listed packed) (omega arith)
-    (plus_none (length (frequency_lows packed)) (frequencies_listed packed) (lows_count packed)) (omega arith)
+    frequencies_stand dependent packed start 2 packed.numbers.count (omega arith)
+    (both (length (gap_bytes packed)) (length (frequency_lows packed)) (gap_size packed) packed.numbers.count
+    (gap_count packed) (lows_count packed)) (omega arith)
     (highs_count packed)
   where
-    plus_none : (count listed : ℕ) → count ≡ listed → count + 0 ≡ listed
-    plus_none count listed e = omega (arith, e)
+    both : (filled count gap listed : ℕ) → filled ≡ gap → count ≡ listed → filled + (count + 0) ≡ gap + listed
+    both filled count gap listed d e = omega (arith, d, e)
 list_stands dependent packed start (Lefts Wave) is =
     let each = lengths dependent packed start in
     fixed_stands dependent packed start 5 _ (omega arith) (omega arith)
@@ -300,18 +305,23 @@ list_stands dependent packed start (Lefts Speed) is =
 list_stands dependent packed start (Rights Speed) is =
     fixed_stands dependent packed start 0 _ (omega arith) refl
 list_stands dependent packed start Periods is = periods_stand dependent packed start is
-list_stands dependent packed start (Instruments field) is = instruments_stand dependent packed start field is
+list_stands dependent packed start (Instruments field) is =
+    instruments_stand dependent packed start field (read_below packed field is)
 list_stands dependent packed start OrderLows is =
     let each = lengths dependent packed start in
+    let sums = field_sums packed in
     fixed_stands dependent packed start 20 _ (omega arith) (omega arith)
 list_stands dependent packed start OrderHighs is =
     let each = lengths dependent packed start in
+    let sums = field_sums packed in
     fixed_stands dependent packed start 21 _ (omega arith) (omega arith)
 list_stands dependent packed start PatternLows is =
     let each = lengths dependent packed start in
+    let sums = field_sums packed in
     fixed_stands dependent packed start 22 _ (omega arith) (omega arith)
 list_stands dependent packed start PatternHighs is =
     let each = lengths dependent packed start in
+    let sums = field_sums packed in
     fixed_stands dependent packed start 23 _ (omega arith) (omega arith)
 list_stands dependent packed start (OrderBytes subtune channel) is =
     let place : label_place dependent packed (OrderBytes subtune channel)

@@ -12,11 +12,12 @@ use Rattle.asm6502.specs.Lines.{size_of}
 use Rattle.player_memory.specs.declared.labels.TheConstants.{SPEED_RIGHTS, SLIDES_LOW}
 use Rattle.song_lists.specs.declared.marks.Mark.{Mark}
 use Rattle.song_lists.specs.Marks.{marked}
-use Rattle.song_lists.specs.DataLists.{frequency_lows, frequency_highs, data_bytes, HasLines}
+use Rattle.song_lists.specs.DataLists.{frequency_lows, frequency_highs, fields_before, data_bytes, HasLines}
 use Rattle.song_lists.specs.ListLaws.{lists_size, IsListLabel}
 use Rattle.song_lists.specs.WorkedLists.{IsSmallSong, plain_bytes, kept_bytes, plain_lines, kept_lines}
 use Rattle.song_lists.specs.WorkedLists.{plain_lines_with, kept_lines_with, last_lines, last_lines_with, frequency_bytes}
-use Rattle.song_lists.specs.WorkedLists.{OtherListingsAreNot}
+use Rattle.song_lists.specs.WorkedLists.{IsSmallSongWith, all_read, delay_read, from}
+use Rattle.song_lists.specs.WorkedLists.{OtherListingsAreNot, OtherListingsAre}
 use Rattle.song_lists.proofs.Naming.{times_named, item_names, named_once}
 use Rattle.song_lists.proofs.DataLines.{lines_take_size, list_labels_are_named}
 use Rattle.song_lists.proofs.WorkedLists.{plain_bytes_are, kept_bytes_are}
@@ -69,16 +70,16 @@ unnamed dependent packed start label lines is none has =
 
 pub plain_size : (packed : PackedSong) → IsSmallSong packed → lists_size false packed ≡ 59
 plain_size packed is =
-    rw (is.subtunes, is.patterns, is.instruments, is.wave, is.pulse, is.filter, is.speed, is.numbers) refl
+    rw (is.subtunes, is.patterns, is.instruments, is.wave, is.pulse, is.filter, is.speed, is.facts, is.numbers) refl
 
 pub kept_size : (packed : PackedSong) → IsSmallSong packed → lists_size true packed ≡ 65
 kept_size packed is =
-    rw (is.subtunes, is.patterns, is.instruments, is.wave, is.pulse, is.filter, is.speed, is.numbers) refl
+    rw (is.subtunes, is.patterns, is.instruments, is.wave, is.pulse, is.filter, is.speed, is.facts, is.numbers) refl
 
 elsewhere_byte : (packed : PackedSong) → IsSmallSong packed → get_or (data_bytes false packed 0x1FCE) 32 0 ≡ 0xF6
-unfolding frequency_lows frequency_highs freq
+unfolding frequency_lows frequency_highs freq fields_before
 elsewhere_byte packed is =
-    rw (is.subtunes, is.patterns, is.instruments, is.wave, is.pulse, is.filter, is.speed) refl
+    rw (is.subtunes, is.patterns, is.instruments, is.wave, is.pulse, is.filter, is.speed, is.facts) refl
 
 plain_byte : (packed : PackedSong) (k : ℕ) → IsSmallSong packed →
     get_or (data_bytes false packed 0x1FCD) k 0 ≡ get_or plain_bytes k 0
@@ -88,7 +89,15 @@ kept_byte : (packed : PackedSong) (k : ℕ) → IsSmallSong packed →
     get_or (data_bytes true packed 0x1FC7) k 0 ≡ get_or kept_bytes k 0
 kept_byte packed k is = ap (λ (bytes : List ℕ). get_or bytes k 0) (kept_bytes_are packed is)
 
-pub other_listings_are_not : (packed : PackedSong) → IsSmallSong packed → OtherListingsAreNot packed
+front_size : (packed : PackedSong) → IsSmallSongWith all_read (from 57 2) packed → lists_size false packed ≡ 61
+front_size packed is =
+    rw (is.subtunes, is.patterns, is.instruments, is.wave, is.pulse, is.filter, is.speed, is.facts, is.numbers) refl
+
+fields_size : (packed : PackedSong) → IsSmallSongWith delay_read (from 36 3) packed → lists_size false packed ≡ 53
+fields_size packed is =
+    rw (is.subtunes, is.patterns, is.instruments, is.wave, is.pulse, is.filter, is.speed, is.facts, is.numbers) refl
+
+other_listings_are_not : (packed : PackedSong) → IsSmallSong packed → OtherListingsAreNot packed
 other_listings_are_not packed is = record {
   without = other_size true packed 0x1FCD 65 plain_lines (kept_size packed is) refl;
   with_speeds = other_size false packed 0x1FC7 59 kept_lines (plain_size packed is) refl;
@@ -109,4 +118,13 @@ other_listings_are_not packed is = record {
       (plain_size packed is) refl;
   label = unnamed false packed 0x1FCD SLIDES_LOW (plain_lines_with SPEED_RIGHTS last_lines)
       (inr (omega arith, omega arith)) refl;
+}
+
+pub other_listings_are : OtherListingsAre
+other_listings_are = record {
+  small = other_listings_are_not;
+  gap = λ packed is. other_size false packed 0x1FCD 61
+      (plain_lines_with SLIDES_LOW (last_lines_with 0xE2 0xFF 0xFF (0x46 ∷ 0x04 ∷ 0x1D ∷ 0x1F ∷ [])))
+      (front_size packed is) refl;
+  fields = λ packed is. other_size false packed 0x1FCD 53 plain_lines (fields_size packed is) refl;
 }

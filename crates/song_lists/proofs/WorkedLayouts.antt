@@ -11,7 +11,6 @@ use Rattle.asm6502.specs.Standing.{BytesStand}
 use Rattle.scopes.specs.Desk.{Layout}
 use Rattle.player_memory.specs.declared.labels.TheConstants.{FREQUENCY_LOWS, SLIDES_LOW, PATTERNS}
 use Rattle.player_memory.specs.SongLists.{FrequencyLows, FrequencyHighs, Periods, PatternBytes, HasSongLists, list_byte}
-use Rattle.player_memory.specs.SongLists.{first_listed, frequencies_listed}
 use Rattle.song_lists.specs.declared.marks.Mark.{Mark}
 use Rattle.song_lists.specs.DataLists.{data_bytes, data_marks, IsDataLayout}
 use Rattle.song_lists.specs.ListLaws.{IsListRoom, IsDataLabel}
@@ -151,11 +150,8 @@ other_last packed at is other has =
     ∙ last_is packed is)
 
 frequencies_are : (packed : PackedSong) → IsSmallSong packed →
-    (first_listed packed ≡ 36) × (frequencies_listed packed ≡ 3)
-frequencies_are packed is = (
-  rw (is.subtunes, is.patterns, is.instruments, is.wave, is.pulse, is.filter, is.speed, is.numbers) refl,
-  rw (is.subtunes, is.patterns, is.instruments, is.wave, is.pulse, is.filter, is.speed, is.numbers) refl,
-)
+    (packed.numbers.first ≡ 36) × (packed.numbers.count ≡ 3)
+frequencies_are packed is = (rw is.numbers refl, rw is.numbers refl)
 
 last_frequency : freq 38 / 256 ≡ 9
 unfolding freq

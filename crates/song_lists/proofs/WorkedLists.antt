@@ -8,61 +8,81 @@ use Rattle.packed_form.specs.declared.packed_songs.PackedSong.{PackedSong}
 use Rattle.play_model.specs.Freq.{freq}
 use Rattle.song_lists.specs.declared.marks.Mark.{Mark}
 use Rattle.song_lists.specs.Marks.{mark_at, marked}
-use Rattle.song_lists.specs.DataLists.{frequency_lows, frequency_highs, data_bytes, data_marks, HasLines}
+use Rattle.song_lists.specs.DataLists.{frequency_lows, frequency_highs, fields_before, data_bytes, data_marks, HasLines}
 use Rattle.song_lists.specs.WorkedLists.{FewAreInFront, NoneIsListed, LastAreListed, FrequenciesAreWorked, from}
+use Rattle.song_lists.specs.WorkedLists.{all_read, delay_read, FewAreRead, FewerAreInFront, FewFieldsAreWorked}
 use Rattle.song_lists.specs.WorkedLists.{IsSmallSongWith, IsSmallSong, plain_bytes, kept_bytes, plain_lines}
 use Rattle.song_lists.specs.WorkedLists.{kept_lines, SmallListsAreWorked}
 use Rattle.song_lists.specs.WorkedLayouts.{plain_marks, kept_marks}
 
 -- ---- frequencies
 
-few_are_in_front : (packed : PackedSong) → IsSmallSongWith (from 57 2) packed → FewAreInFront packed
-unfolding frequency_lows frequency_highs freq
+few_are_in_front : (packed : PackedSong) → IsSmallSongWith all_read (from 57 2) packed → FewAreInFront packed
+unfolding frequency_lows frequency_highs freq fields_before
 few_are_in_front packed is = record {
-  first =
-      rw (is.subtunes, is.patterns, is.instruments, is.wave, is.pulse, is.filter, is.speed, is.numbers) refl;
-  count =
-      rw (is.subtunes, is.patterns, is.instruments, is.wave, is.pulse, is.filter, is.speed, is.numbers) refl;
-  lows =
-      rw (is.subtunes, is.patterns, is.instruments, is.wave, is.pulse, is.filter, is.speed, is.numbers) refl;
-  highs =
-      rw (is.subtunes, is.patterns, is.instruments, is.wave, is.pulse, is.filter, is.speed, is.numbers) refl;
+  gap =
+      rw (is.subtunes, is.patterns, is.instruments, is.wave, is.pulse, is.filter, is.speed, is.facts, is.numbers) refl;
+  bytes =
+      rw (is.subtunes, is.patterns, is.instruments, is.wave, is.pulse, is.filter, is.speed, is.facts, is.numbers) refl;
+  lows = rw is.numbers refl;
+  highs = rw is.numbers refl;
   low_label =
-      rw (is.subtunes, is.patterns, is.instruments, is.wave, is.pulse, is.filter, is.speed, is.numbers) refl;
+      rw (is.subtunes, is.patterns, is.instruments, is.wave, is.pulse, is.filter, is.speed, is.facts, is.numbers) refl;
   high_label =
-      rw (is.subtunes, is.patterns, is.instruments, is.wave, is.pulse, is.filter, is.speed, is.numbers) refl;
+      rw (is.subtunes, is.patterns, is.instruments, is.wave, is.pulse, is.filter, is.speed, is.facts, is.numbers) refl;
   kept_label =
-      rw (is.subtunes, is.patterns, is.instruments, is.wave, is.pulse, is.filter, is.speed, is.numbers) refl;
+      rw (is.subtunes, is.patterns, is.instruments, is.wave, is.pulse, is.filter, is.speed, is.facts, is.numbers) refl;
   size =
-      rw (is.subtunes, is.patterns, is.instruments, is.wave, is.pulse, is.filter, is.speed, is.numbers) refl;
+      rw (is.subtunes, is.patterns, is.instruments, is.wave, is.pulse, is.filter, is.speed, is.facts, is.numbers) refl;
 }
 
-none_is_listed : (packed : PackedSong) → IsSmallSongWith (from 0 0) packed → NoneIsListed packed
-unfolding frequency_lows
+none_is_listed : (packed : PackedSong) → IsSmallSongWith all_read (from 0 0) packed → NoneIsListed packed
+unfolding frequency_lows fields_before
 none_is_listed packed is = record {
-  count =
-      rw (is.subtunes, is.patterns, is.instruments, is.wave, is.pulse, is.filter, is.speed, is.numbers) refl;
-  lows =
-      rw (is.subtunes, is.patterns, is.instruments, is.wave, is.pulse, is.filter, is.speed, is.numbers) refl;
+  gap =
+      rw (is.subtunes, is.patterns, is.instruments, is.wave, is.pulse, is.filter, is.speed, is.facts, is.numbers) refl;
+  lows = rw is.numbers refl;
   low_label =
-      rw (is.subtunes, is.patterns, is.instruments, is.wave, is.pulse, is.filter, is.speed, is.numbers) refl;
+      rw (is.subtunes, is.patterns, is.instruments, is.wave, is.pulse, is.filter, is.speed, is.facts, is.numbers) refl;
   high_label =
-      rw (is.subtunes, is.patterns, is.instruments, is.wave, is.pulse, is.filter, is.speed, is.numbers) refl;
+      rw (is.subtunes, is.patterns, is.instruments, is.wave, is.pulse, is.filter, is.speed, is.facts, is.numbers) refl;
   size =
-      rw (is.subtunes, is.patterns, is.instruments, is.wave, is.pulse, is.filter, is.speed, is.numbers) refl;
+      rw (is.subtunes, is.patterns, is.instruments, is.wave, is.pulse, is.filter, is.speed, is.facts, is.numbers) refl;
 }
 
-last_are_listed : (packed : PackedSong) → IsSmallSongWith (from 95 3) packed → LastAreListed packed
-unfolding frequency_lows frequency_highs freq
+last_are_listed : (packed : PackedSong) → IsSmallSongWith all_read (from 95 3) packed → LastAreListed packed
+unfolding frequency_lows frequency_highs freq fields_before
 last_are_listed packed is = record {
-  lows =
-      rw (is.subtunes, is.patterns, is.instruments, is.wave, is.pulse, is.filter, is.speed, is.numbers) refl;
-  highs =
-      rw (is.subtunes, is.patterns, is.instruments, is.wave, is.pulse, is.filter, is.speed, is.numbers) refl;
+  lows = rw is.numbers refl;
+  highs = rw is.numbers refl;
 }
 
 pub frequencies_are_worked : FrequenciesAreWorked
 frequencies_are_worked = record { few = few_are_in_front; none = none_is_listed; last = last_are_listed }
+
+-- ---- fields that aren't read
+
+few_are_read : (packed : PackedSong) → IsSmallSongWith delay_read (from 36 3) packed → FewAreRead packed
+unfolding frequency_lows frequency_highs freq fields_before
+few_are_read packed is = record {
+  bytes = rw (is.subtunes, is.patterns, is.instruments, is.wave, is.pulse, is.filter, is.speed, is.facts, is.numbers)
+      refl;
+  fields = rw (is.instruments, is.wave, is.pulse, is.filter, is.speed, is.facts) refl;
+  orders = rw (is.instruments, is.wave, is.pulse, is.filter, is.speed, is.facts) refl;
+  size = rw (is.subtunes, is.patterns, is.instruments, is.wave, is.pulse, is.filter, is.speed, is.facts, is.numbers)
+      refl;
+}
+
+fewer_are_in_front : (packed : PackedSong) → IsSmallSongWith delay_read (from 57 2) packed → FewerAreInFront packed
+fewer_are_in_front packed is = record {
+  gap = rw (is.subtunes, is.patterns, is.instruments, is.wave, is.pulse, is.filter, is.speed, is.facts, is.numbers)
+      refl;
+  size = rw (is.subtunes, is.patterns, is.instruments, is.wave, is.pulse, is.filter, is.speed, is.facts, is.numbers)
+      refl;
+}
+
+pub few_fields_are_worked : FewFieldsAreWorked
+few_fields_are_worked = record { few = few_are_read; front = fewer_are_in_front }
 
 -- ---- their labels, by their places
 
@@ -144,13 +164,14 @@ from_rises from (first ∷ marks) rise (suc i) (suc j) d le inside =
 -- ---- the song's bytes and marks
 
 pub plain_bytes_are : (packed : PackedSong) → IsSmallSong packed → data_bytes false packed 0x1FCD ≡ plain_bytes
-unfolding frequency_lows frequency_highs freq
+unfolding frequency_lows frequency_highs freq fields_before
 plain_bytes_are packed is =
-    rw (is.subtunes, is.patterns, is.instruments, is.wave, is.pulse, is.filter, is.speed, is.numbers) refl
+    rw (is.subtunes, is.patterns, is.instruments, is.wave, is.pulse, is.filter, is.speed, is.facts, is.numbers) refl
 
 pub plain_marks_are : (packed : PackedSong) → IsSmallSong packed → data_marks false packed ≡ plain_marks
+unfolding fields_before
 plain_marks_are packed is =
-    rw (is.subtunes, is.patterns, is.instruments, is.wave, is.pulse, is.filter, is.speed, is.numbers) refl
+    rw (is.subtunes, is.patterns, is.instruments, is.wave, is.pulse, is.filter, is.speed, is.facts, is.numbers) refl
 
 plain_lines_are : plain_lines ≡ marked 0 plain_sorted plain_bytes
 plain_lines_are = refl
@@ -166,13 +187,14 @@ plain_has_lines packed is = record {
 }
 
 pub kept_bytes_are : (packed : PackedSong) → IsSmallSong packed → data_bytes true packed 0x1FC7 ≡ kept_bytes
-unfolding frequency_lows frequency_highs freq
+unfolding frequency_lows frequency_highs freq fields_before
 kept_bytes_are packed is =
-    rw (is.subtunes, is.patterns, is.instruments, is.wave, is.pulse, is.filter, is.speed, is.numbers) refl
+    rw (is.subtunes, is.patterns, is.instruments, is.wave, is.pulse, is.filter, is.speed, is.facts, is.numbers) refl
 
 pub kept_marks_are : (packed : PackedSong) → IsSmallSong packed → data_marks true packed ≡ kept_marks
+unfolding fields_before
 kept_marks_are packed is =
-    rw (is.subtunes, is.patterns, is.instruments, is.wave, is.pulse, is.filter, is.speed, is.numbers) refl
+    rw (is.subtunes, is.patterns, is.instruments, is.wave, is.pulse, is.filter, is.speed, is.facts, is.numbers) refl
 
 kept_lines_are : kept_lines ≡ marked 0 kept_sorted kept_bytes
 kept_lines_are = refl

@@ -3,16 +3,18 @@ use Rattle.std.proofs.Common.{◌≡◌, ℕ, zero, suc, ◌+◌, ◌<◌, Bool,
 use Rattle.std.proofs.Common.{slice_index, nat_eq, refl, sym, ap, ◌∙◌, arith}
 use Rattle.std.proofs.lemmas.Bool.{eqb-false}
 use Rattle.packed_form.specs.declared.packed_songs.PackedSong.{PackedSong}
-use Rattle.song_lists.specs.DataLists.{order_places, AreFirstOrders}
+use Rattle.song_lists.specs.DataLists.{fields_before, order_places, AreFirstOrders}
 use Rattle.song_lists.specs.WorkedLists.{IsSmallSong, FirstOrdersAreWorked}
 
 plain_places_are : (packed : PackedSong) → IsSmallSong packed → order_places false packed ≡ 40 ∷ 43 ∷ 47 ∷ []
+unfolding fields_before
 plain_places_are packed is =
-    rw (is.subtunes, is.patterns, is.instruments, is.wave, is.pulse, is.filter, is.speed) refl
+    rw (is.subtunes, is.patterns, is.instruments, is.wave, is.pulse, is.filter, is.speed, is.facts) refl
 
 kept_places_are : (packed : PackedSong) → IsSmallSong packed → order_places true packed ≡ 46 ∷ 49 ∷ 53 ∷ []
+unfolding fields_before
 kept_places_are packed is =
-    rw (is.subtunes, is.patterns, is.instruments, is.wave, is.pulse, is.filter, is.speed) refl
+    rw (is.subtunes, is.patterns, is.instruments, is.wave, is.pulse, is.filter, is.speed, is.facts) refl
 
 are_orders : (dependent : Bool) (packed : PackedSong) (start one two three : ℕ) →
     order_places dependent packed ≡ one ∷ two ∷ three ∷ [] →

@@ -3,7 +3,7 @@
 -- there are three lists more. This is the project's own player.
 use Rattle.std.specs.Prelude.{◌≡◌, ℕ, ◌+◌, ◌-◌, ◌*◌, ◌/◌, ◌%◌, ◌<◌, Bool, List, []}
 use Rattle.std.specs.Prelude.{if◌then◌else◌, ◌∷◌, ◌++◌}
-use Rattle.std.specs.Prelude.{length, map, max, Contains, IsPermutation, slice_index}
+use Rattle.std.specs.Prelude.{length, map, max, replicate, sum_by, Contains, IsPermutation, slice_index}
 use Rattle.std.specs.List.{concat, flat_map, range_with_len}
 use Rattle.std.specs.List.Sorted.{IsNonDecreasingBy}
 use Rattle.song_model.specs.declared.tables.TableRow.{TableRow}
@@ -21,20 +21,24 @@ use Rattle.player_memory.specs.declared.labels.TheConstants.{ORDERS, PATTERNS}
 use Rattle.player_memory.specs.Forms.{stored}
 use Rattle.player_memory.specs.SongLists.{SongList, FrequencyLows, FrequencyHighs, Lefts, Rights, Periods, Instruments}
 use Rattle.player_memory.specs.SongLists.{OrderLows, OrderHighs, PatternLows, PatternHighs, OrderBytes, PatternBytes}
-use Rattle.player_memory.specs.SongLists.{first_listed, frequencies_listed, slide_rows, instrument_byte, list_label}
+use Rattle.player_memory.specs.SongLists.{is_read, gap_size, slide_rows, instrument_byte, list_label}
 use Rattle.song_lists.specs.declared.marks.Mark.{Mark}
 use Rattle.song_lists.specs.Marks.{mark_at, marked}
 
 -- ---- lists of bytes
 
--- the low bytes and the high bytes of the frequencies of the numbers that are listed
+-- zeros that fill the gap in front of the frequencies
+abbrev pub gap_bytes : PackedSong → List ℕ
+gap_bytes packed = replicate (gap_size packed) 0
+
+-- the low bytes and the high bytes of the frequencies of the numbers that the song asks for
 unfoldable pub frequency_lows : PackedSong → List ℕ
 frequency_lows packed =
-    map (λ n. freq n % 256) (range_with_len (first_listed packed) (frequencies_listed packed))
+    map (λ n. freq n % 256) (range_with_len packed.numbers.first packed.numbers.count)
 
 unfoldable pub frequency_highs : PackedSong → List ℕ
 frequency_highs packed =
-    map (λ n. freq n / 256) (range_with_len (first_listed packed) (frequencies_listed packed))
+    map (λ n. freq n / 256) (range_with_len packed.numbers.first packed.numbers.count)
 
 -- the sides of a table's rows; the rows of the wave table are stored in a form of their own
 abbrev pub lefts : List TableRow → List ℕ
@@ -58,10 +62,20 @@ kept_list dependent side = if dependent then 0 ∷ side else []
 abbrev pub kept_rows : Bool → PackedSong → ℕ
 kept_rows dependent packed = if dependent then slide_rows packed else 0
 
--- the byte with this number of each instrument, as the player reads it
-abbrev pub instrument_bytes : PackedSong → ℕ → List ℕ
-instrument_bytes packed field =
+-- the byte with this number of each instrument, as the player reads it where it does
+abbrev pub field_bytes : PackedSong → ℕ → List ℕ
+field_bytes packed field =
     map (λ instrument. instrument_byte field (unpacked_instrument instrument)) packed.instruments
+
+abbrev pub instrument_bytes : PackedSong → ℕ → List ℕ
+instrument_bytes packed field = if is_read packed field then field_bytes packed field else []
+
+-- how many bytes the list of a field has, and those of the fields before it
+abbrev pub field_size : PackedSong → ℕ → ℕ
+field_size packed field = if is_read packed field then length packed.instruments else 0
+
+unfoldable pub fields_before : PackedSong → ℕ → ℕ
+fields_before packed field = sum_by (field_size packed) (range_with_len 0 field)
 
 -- the orderlists, three of each subtune
 abbrev pub orders_of : PackedSubtune → List (List ℕ)
@@ -110,13 +124,13 @@ pulse_place dependent packed = wave_place dependent packed + 2 * length packed.w
 abbrev pub filter_place : Bool → PackedSong → ℕ
 filter_place dependent packed = pulse_place dependent packed + 2 * length packed.pulse
 
--- so do those of the nine lists over the instruments
+-- so do those of the nine lists over the instruments, of which some may have no bytes
 abbrev pub instruments_place : Bool → PackedSong → ℕ
 instruments_place dependent packed = filter_place dependent packed + 2 * length packed.filter
 
 -- the addresses of the orderlists and of the patterns stand behind these, and then they themselves
 abbrev pub addresses_place : Bool → PackedSong → ℕ
-addresses_place dependent packed = instruments_place dependent packed + 9 * length packed.instruments + 1
+addresses_place dependent packed = instruments_place dependent packed + fields_before packed 9 + 1
 
 abbrev pub orders_place : Bool → PackedSong → ℕ
 orders_place dependent packed =
@@ -125,13 +139,15 @@ orders_place dependent packed =
 abbrev pub patterns_place : Bool → PackedSong → ℕ
 patterns_place dependent packed = orders_place dependent packed + length (concat (all_orders packed))
 
--- The frequencies stand behind the patterns. Their labels name the byte that number 0 would have, as many bytes in front
--- of the first one as there are numbers below it; and where there is none, some byte in front of them.
+-- The frequencies stand behind the patterns, and behind zeros that fill a gap. Their labels name the byte that number 0
+-- would have, as many bytes in front of the first one as there are numbers below it; and where there is none, some byte
+-- in front of them.
 abbrev pub frequencies_place : Bool → PackedSong → ℕ
-frequencies_place dependent packed = patterns_place dependent packed + length (concat packed.patterns)
+frequencies_place dependent packed =
+    patterns_place dependent packed + length (concat packed.patterns) + gap_size packed
 
 abbrev pub bytes_back : PackedSong → ℕ
-bytes_back packed = max (first_listed packed) (1 - frequencies_listed packed)
+bytes_back packed = max packed.numbers.first (1 - packed.numbers.count)
 
 -- where lists stand, one behind the other
 abbrev pub places_from : ℕ → List (List ℕ) → List ℕ
@@ -176,7 +192,7 @@ address_lists dependent packed start =
     ∷ lows start 1 (pattern_places dependent packed) ∷ highs start 1 (pattern_places dependent packed) ∷ []
 
 abbrev pub frequency_lists : PackedSong → List (List ℕ)
-frequency_lists packed = frequency_lows packed ∷ frequency_highs packed ∷ []
+frequency_lists packed = gap_bytes packed ∷ frequency_lows packed ∷ frequency_highs packed ∷ []
 
 abbrev pub data_bytes : Bool → PackedSong → ℕ → List ℕ
 data_bytes dependent packed start = concat
@@ -190,7 +206,7 @@ abbrev pub label_place : Bool → PackedSong → SongList → ℕ
 label_place dependent packed FrequencyLows = frequencies_place dependent packed - bytes_back packed
 label_place dependent packed (Rights Speed) = speed_rights_place packed
 label_place dependent packed FrequencyHighs =
-    frequencies_place dependent packed + frequencies_listed packed - bytes_back packed
+    frequencies_place dependent packed + packed.numbers.count - bytes_back packed
 label_place dependent packed (Lefts Speed) = speed_lefts_place packed
 label_place dependent packed Periods = periods_place dependent packed
 label_place dependent packed (Lefts Wave) = wave_place dependent packed
@@ -200,7 +216,7 @@ label_place dependent packed (Rights Pulse) = pulse_place dependent packed + len
 label_place dependent packed (Lefts Filter) = filter_place dependent packed
 label_place dependent packed (Rights Filter) = filter_place dependent packed + length packed.filter
 label_place dependent packed (Instruments field) =
-    instruments_place dependent packed + field * length packed.instruments
+    instruments_place dependent packed + fields_before packed field
 label_place dependent packed OrderLows = addresses_place dependent packed
 label_place dependent packed OrderHighs = addresses_place dependent packed + 3 * length packed.subtunes
 label_place dependent packed PatternLows = addresses_place dependent packed + 6 * length packed.subtunes

@@ -3,7 +3,6 @@ use Rattle.std.specs.Prelude.{◌≡◌, ℕ, ◌+◌, ◌*◌, ◌<◌, ◌≤�
 use Rattle.std.specs.Prelude.{◌∷◌, ◌++◌, length, All, Contains, Some}
 use Rattle.cpu6502.specs.declared.memory.TheConstants.{MEMORY_SIZE}
 use Rattle.packed_form.specs.declared.packed_songs.PackedSong.{PackedSong}
-use Rattle.packed_form.specs.Sizes.{packed_song_size}
 use Rattle.asm6502.specs.declared.lines.Item.{Item}
 use Rattle.asm6502.specs.declared.lines.Item.TheVariants.{Label, Code, Bytes}
 use Rattle.asm6502.specs.declared.lines.Line.{Line}
@@ -18,7 +17,7 @@ use Rattle.player_memory.specs.Rooms.{AreSlides}
 use Rattle.player_memory.specs.Playing.{place_in}
 use Rattle.player_memory.specs.Fetching.{place_before}
 use Rattle.player_memory.specs.SongLists.{SongList, IsSongList, HasNumber, SlidesStand, HasSongLists}
-use Rattle.player_memory.specs.SongLists.{frequencies_listed, list_label, list_byte, slide_rows}
+use Rattle.player_memory.specs.SongLists.{bytes_in_front, gap_size, list_label, list_byte, slide_rows}
 use Rattle.player_memory.specs.Holds.{AreNext, PatternStands}
 use Rattle.song_lists.specs.declared.marks.Mark.{Mark}
 use Rattle.song_lists.specs.DataLists.{kept_rows, data_bytes, data_marks, HasLines, IsDataLayout}
@@ -30,11 +29,11 @@ pub record KeepsCounts (packed : PackedSong) : Type 0 where
 
 -- ---- sizes
 
--- two zeros, the bytes of the packed song, three lists of slides and periods where they are kept, and two bytes of each
--- frequency that is listed
+-- two zeros and what is read of the packed song, three lists of slides and periods where they are kept, and behind a
+-- gap two bytes of each frequency
 abbrev pub lists_size : Bool → PackedSong → ℕ
 lists_size dependent packed =
-    2 + packed_song_size packed + 3 * kept_rows dependent packed + 2 * frequencies_listed packed
+    bytes_in_front packed + 3 * kept_rows dependent packed + gap_size packed + 2 * packed.numbers.count
 
 abbrev pub DataTakesSize : Type 0
 DataTakesSize =

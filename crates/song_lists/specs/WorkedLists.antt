@@ -1,9 +1,12 @@
 -- The listing of a small song's lists, worked out by hand, without calculated speeds and with them; and such as aren't.
-use Rattle.std.specs.Prelude.{◌≡◌, ℕ, ◌+◌, List, [], ◌∷◌, drop, true, false}
+use Rattle.std.specs.Prelude.{◌≡◌, ℕ, ◌+◌, List, [], ◌∷◌, drop, map, true, false}
+use Rattle.std.specs.List.{range_with_len}
 use Rattle.asked_numbers.specs.declared.range.NumberRange.{NumberRange}
 use Rattle.packed_form.specs.declared.packed_songs.PackedSubtune.{PackedSubtune}
 use Rattle.packed_form.specs.declared.packed_songs.PackedInstrument.{PackedInstrument}
 use Rattle.packed_form.specs.declared.packed_songs.PackedSong.{PackedSong}
+use Rattle.song_facts.specs.declared.facts.Facts.{Facts}
+use Rattle.song_facts.specs.Facts.{no_facts}
 use Rattle.song_model.specs.declared.tables.TableRow.{TableRow}
 use Rattle.asm6502.specs.declared.lines.Line.{Line}
 use Rattle.player_memory.specs.declared.labels.TheConstants.{FREQUENCY_LOWS, NEXT_FREQUENCY_LOWS, FREQUENCY_HIGHS}
@@ -15,9 +18,10 @@ use Rattle.player_memory.specs.declared.labels.TheConstants.{NEXT_FILTER_LEFTS, 
 use Rattle.player_memory.specs.declared.labels.TheConstants.{FILTERS, VIBRATOS, DELAYS, GATE_TIMERS, FIRST_WAVES}
 use Rattle.player_memory.specs.declared.labels.TheConstants.{ORDERS_LOW, ORDERS_HIGH, PATTERNS_LOW, PATTERNS_HIGH}
 use Rattle.player_memory.specs.declared.labels.TheConstants.{ORDERS, PATTERNS}
-use Rattle.player_memory.specs.SongLists.{FrequencyLows, FrequencyHighs, first_listed, frequencies_listed}
+use Rattle.player_memory.specs.SongLists.{FrequencyLows, FrequencyHighs, Instruments, OrderLows, gap_size}
 use Rattle.song_lists.specs.Marks.{label_line, bytes_line}
-use Rattle.song_lists.specs.DataLists.{frequency_lows, frequency_highs, label_place, data_bytes, AreFirstOrders, HasLines}
+use Rattle.song_lists.specs.DataLists.{gap_bytes, frequency_lows, frequency_highs, label_place, data_bytes}
+use Rattle.song_lists.specs.DataLists.{AreFirstOrders, HasLines}
 use Rattle.song_lists.specs.ListLaws.{lists_size}
 
 -- ---- a small song
@@ -40,9 +44,17 @@ vibrato_instrument = record { bytes = 0x0A ∷ 0x90 ∷ 0x02 ∷ 0x00 ∷ 0x00 �
 abbrev pub row : ℕ → ℕ → TableRow
 row left right = record { left = left; right = right }
 
+-- each field of its instruments is read, or of those that need a fact the vibrato's delay alone
+abbrev pub all_read : Facts
+all_read =
+    record no_facts { note_pulse = true; note_filter = true; note_vibrato = true; vibrato_delay = true }
+
+abbrev pub delay_read : Facts
+delay_read = record no_facts { vibrato_delay = true }
+
 -- a wave program of a delay, a silent waveform, a command and a jump; a row of the pulse table; none of the filter
--- table; a speed that is calculated from notes; and it asks for these numbers
-pub record IsSmallSongWith (range : NumberRange) (packed : PackedSong) : Type 0 where
+-- table; a speed that is calculated from notes; with these facts; and it asks for these numbers
+pub record IsSmallSongWith (marked : Facts) (range : NumberRange) (packed : PackedSong) : Type 0 where
   pub subtunes : packed.subtunes ≡ small_subtune ∷ []
   pub patterns : packed.patterns ≡ (0xC0 ∷ 0x00 ∷ []) ∷ []
   pub instruments : packed.instruments ≡ plain_instrument ∷ vibrato_instrument ∷ []
@@ -50,6 +62,7 @@ pub record IsSmallSongWith (range : NumberRange) (packed : PackedSong) : Type 0 
   pub pulse : packed.pulse ≡ row 0x88 0x00 ∷ []
   pub filter : packed.filter ≡ []
   pub speed : packed.speed ≡ row 0x83 0x20 ∷ []
+  pub facts : packed.facts ≡ marked
   pub numbers : packed.numbers ≡ range
 
 abbrev pub from : ℕ → ℕ → NumberRange
@@ -57,7 +70,7 @@ from first count = record { first = first; count = count }
 
 -- C-3, $08B4, and the two above it, $0938 and $09C4
 abbrev pub IsSmallSong : PackedSong → Type 0
-IsSmallSong packed = IsSmallSongWith (from 36 3) packed
+IsSmallSong packed = IsSmallSongWith all_read (from 36 3) packed
 
 -- ---- its bytes
 
@@ -183,20 +196,21 @@ SmallListsAre = (packed : PackedSong) → IsSmallSong packed → SmallListsAreWo
 
 -- ---- its frequencies, where it asks for others
 
--- A-4, which is $1D46, and the one above it: with 53 bytes in front of the frequencies these begin at number 53
+-- A-4, which is $1D46, and the one above it: in front of number 57 are 53 bytes, and four zeros
 pub record FewAreInFront (packed : PackedSong) : Type 0 where
-  pub first : first_listed packed ≡ 53
-  pub count : frequencies_listed packed ≡ 6
-  pub lows : frequency_lows packed ≡ 0x3C ∷ 0x9E ∷ 0x14 ∷ 0xA1 ∷ 0x46 ∷ 0x04 ∷ []
-  pub highs : frequency_highs packed ≡ 0x17 ∷ 0x18 ∷ 0x1A ∷ 0x1B ∷ 0x1D ∷ 0x1F ∷ []
+  pub gap : gap_bytes packed ≡ 0x00 ∷ 0x00 ∷ 0x00 ∷ 0x00 ∷ []
+  pub bytes : drop 51 (data_bytes false packed 0x1FCD)
+      ≡ 0xC0 ∷ 0x00 ∷ 0x00 ∷ 0x00 ∷ 0x00 ∷ 0x00 ∷ 0x46 ∷ 0x04 ∷ 0x1D ∷ 0x1F ∷ []
+  pub lows : frequency_lows packed ≡ 0x46 ∷ 0x04 ∷ []
+  pub highs : frequency_highs packed ≡ 0x1D ∷ 0x1F ∷ []
   pub low_label : label_place false packed FrequencyLows ≡ 0
-  pub high_label : label_place false packed FrequencyHighs ≡ 6
+  pub high_label : label_place false packed FrequencyHighs ≡ 2
   pub kept_label : label_place true packed FrequencyLows ≡ 6
-  pub size : lists_size false packed ≡ 65
+  pub size : lists_size false packed ≡ 61
 
 -- none: the labels are in front of the last byte
 pub record NoneIsListed (packed : PackedSong) : Type 0 where
-  pub count : frequencies_listed packed ≡ 0
+  pub gap : gap_bytes packed ≡ []
   pub lows : frequency_lows packed ≡ []
   pub low_label : label_place false packed FrequencyLows ≡ 52
   pub high_label : label_place false packed FrequencyHighs ≡ 52
@@ -204,13 +218,36 @@ pub record NoneIsListed (packed : PackedSong) : Type 0 where
 
 -- B-7, and two above it, whose frequencies are zeros
 pub record LastAreListed (packed : PackedSong) : Type 0 where
-  pub lows : drop 42 (frequency_lows packed) ≡ 0xFF ∷ 0x00 ∷ 0x00 ∷ []
-  pub highs : drop 42 (frequency_highs packed) ≡ 0xFF ∷ 0x00 ∷ 0x00 ∷ []
+  pub lows : frequency_lows packed ≡ 0xFF ∷ 0x00 ∷ 0x00 ∷ []
+  pub highs : frequency_highs packed ≡ 0xFF ∷ 0x00 ∷ 0x00 ∷ []
 
 pub record FrequenciesAreWorked : Type 0 where
-  pub few : (packed : PackedSong) → IsSmallSongWith (from 57 2) packed → FewAreInFront packed
-  pub none : (packed : PackedSong) → IsSmallSongWith (from 0 0) packed → NoneIsListed packed
-  pub last : (packed : PackedSong) → IsSmallSongWith (from 95 3) packed → LastAreListed packed
+  pub few : (packed : PackedSong) → IsSmallSongWith all_read (from 57 2) packed → FewAreInFront packed
+  pub none : (packed : PackedSong) → IsSmallSongWith all_read (from 0 0) packed → NoneIsListed packed
+  pub last : (packed : PackedSong) → IsSmallSongWith all_read (from 95 3) packed → LastAreListed packed
+
+-- ---- its instruments, where three of their fields aren't read
+
+-- The lists of these fields have no bytes: of two instruments the delays follow the wave programs, and so the
+-- orderlists and what stands behind them stand six bytes further in front. In front of number 57 are 47 bytes, and ten
+-- zeros.
+pub record FewAreRead (packed : PackedSong) : Type 0 where
+  pub bytes : drop 14 (data_bytes false packed 0x1FD3)
+      ≡ 0x09 ∷ 0x0A ∷ 0xA0 ∷ 0x90 ∷ 0x01 ∷ 0x02 ∷ 0xFF ∷ 0x04 ∷ 0x02 ∷ 0x03 ∷ 0x41 ∷ 0x11
+      ∷ 0xF5 ∷ 0xF8 ∷ 0xFC ∷ 0x1F ∷ 0x1F ∷ 0x1F ∷ 0xFF ∷ 0x1F ∷ 0x00 ∷ 0xFF ∷ 0x00 ∷ 0xF2 ∷ 0x00 ∷ 0xFF ∷ 0x01
+      ∷ 0xD1 ∷ 0x00 ∷ 0xFF ∷ 0x00 ∷ 0xC0 ∷ 0x00 ∷ 0xB4 ∷ 0x38 ∷ 0xC4 ∷ 0x08 ∷ 0x09 ∷ 0x09 ∷ []
+  pub fields : map (λ field. label_place false packed (Instruments field)) (range_with_len 0 9)
+      ≡ 13 ∷ 15 ∷ 17 ∷ 19 ∷ 19 ∷ 19 ∷ 19 ∷ 21 ∷ 23 ∷ []
+  pub orders : label_place false packed OrderLows ≡ 26
+  pub size : lists_size false packed ≡ 53
+
+pub record FewerAreInFront (packed : PackedSong) : Type 0 where
+  pub gap : gap_size packed ≡ 10
+  pub size : lists_size false packed ≡ 61
+
+pub record FewFieldsAreWorked : Type 0 where
+  pub few : (packed : PackedSong) → IsSmallSongWith delay_read (from 36 3) packed → FewAreRead packed
+  pub front : (packed : PackedSong) → IsSmallSongWith delay_read (from 57 2) packed → FewerAreInFront packed
 
 -- ---- where its orderlists are
 
@@ -249,5 +286,11 @@ pub record OtherListingsAreNot (packed : PackedSong) : Type 0 where
   -- the label of the slides left out
   pub label : ¬ HasLines false packed 0x1FCD (plain_lines_with SPEED_RIGHTS last_lines)
 
-abbrev pub OtherListingsAre : Type 0
-OtherListingsAre = (packed : PackedSong) → IsSmallSong packed → OtherListingsAreNot packed
+-- beside them one without the zeros that fill the gap, and one with fields that aren't read
+pub record OtherListingsAre : Type 0 where
+  pub small : (packed : PackedSong) → IsSmallSong packed → OtherListingsAreNot packed
+  pub gap : (packed : PackedSong) → IsSmallSongWith all_read (from 57 2) packed →
+      ¬ HasLines false packed 0x1FCD (plain_lines_with SLIDES_LOW
+      (last_lines_with 0xE2 0xFF 0xFF (0x46 ∷ 0x04 ∷ 0x1D ∷ 0x1F ∷ [])))
+  pub fields : (packed : PackedSong) → IsSmallSongWith delay_read (from 36 3) packed →
+      ¬ HasLines false packed 0x1FCD plain_lines

@@ -5,7 +5,8 @@ ghost use Rattle.std.specs.List.{concat, flat_map};
 ghost use Rattle.packed_form.specs.Unpacked.{unpacked_instrument};
 ghost use Rattle.player_memory.specs.Forms.{stored_left, stored_right};
 ghost use Rattle.player_memory.specs.SongLists.{instrument_byte};
-ghost use Rattle.song_lists.specs.DataLists.{frequency_lows, frequency_highs, lefts, rights, stored_rows, periods};
+ghost use Rattle.song_lists.specs.DataLists.{gap_bytes, frequency_lows, frequency_highs, lefts, rights, stored_rows};
+ghost use Rattle.song_lists.specs.DataLists.{periods};
 ghost use Rattle.song_lists.specs.DataLists.{kept_list, lows, highs, orders_of, instrument_bytes};
 ghost use Rattle.song_lists.specs.DataLists.{speed_lists, kept_lists, table_lists, instrument_lists};
 ghost use Rattle.song_lists.specs.DataLists.{order_places, pattern_places, frequency_lists, data_bytes};
@@ -13,18 +14,25 @@ ghost use Rattle.song_lists.specs.DataLists.{order_places, pattern_places, frequ
 use base::{ByteList, NoMemory};
 use packed_form::{PackedInstrument, PackedPattern, PackedSong, PackedSubtune};
 use play_model::freq;
-use player_memory::listed_numbers;
+use player_memory::{DELAY_BYTE, gap_size, is_read};
 use song_model::TableRow;
 use std::alloc::Global;
 
-/// The number of the byte of an instrument that is its vibrato's delay.
-const VIBRATO_DELAY: usize = 6;
+/// The zeros in front of the frequencies, appended.
+fn push_gap(bytes: &mut ByteList, packed: &PackedSong) -> Result<(), NoMemory>
+    ensures { OnOk result (bytes.new ≡ bytes.old ++ gap_bytes packed.now) }
+{
+    for _zero in 0..gap_size(packed) {
+        bytes.push(0)?;
+    }
+    Ok(())
+}
 
-/// The low bytes of the frequencies that are listed, appended.
+/// The low bytes of the frequencies that the song asks for.
 fn push_frequency_lows(bytes: &mut ByteList, packed: &PackedSong) -> Result<(), NoMemory>
     ensures { OnOk result (bytes.new ≡ bytes.old ++ frequency_lows packed.now) }
 {
-    let listed = listed_numbers(packed);
+    let listed = packed.numbers;
     for n in listed.first..listed.first + listed.count {
         bytes.push((freq(n) % 256) as u8)?;
     }
@@ -35,7 +43,7 @@ fn push_frequency_lows(bytes: &mut ByteList, packed: &PackedSong) -> Result<(), 
 fn push_frequency_highs(bytes: &mut ByteList, packed: &PackedSong) -> Result<(), NoMemory>
     ensures { OnOk result (bytes.new ≡ bytes.old ++ frequency_highs packed.now) }
 {
-    let listed = listed_numbers(packed);
+    let listed = packed.numbers;
     for n in listed.first..listed.first + listed.count {
         bytes.push((freq(n) / 256) as u8)?;
     }
@@ -170,7 +178,7 @@ fn field_byte(instrument: &PackedInstrument, field: usize) -> u8
     ensures { result ≡ instrument_byte field (unpacked_instrument instrument.now) }
 {
     let byte = instrument.bytes[field];
-    if field == VIBRATO_DELAY {
+    if field == DELAY_BYTE {
         byte.wrapping_sub(1)
     } else {
         byte
@@ -193,12 +201,24 @@ fn push_field(
     Ok(())
 }
 
-/// The nine lists over the instruments.
+/// The same, where it is read.
+fn push_read_field(bytes: &mut ByteList, packed: &PackedSong, field: usize) -> Result<(), NoMemory>
+    requires { field < 9 }
+    ensures { OnOk result (bytes.new ≡ bytes.old ++ instrument_bytes packed.now field) }
+{
+    if is_read(packed, field) {
+        push_field(bytes, packed.instruments.as_slice(), field)
+    } else {
+        Ok(())
+    }
+}
+
+/// The lists over the instruments.
 fn push_instrument_lists(bytes: &mut ByteList, packed: &PackedSong) -> Result<(), NoMemory>
     ensures { OnOk result (bytes.new ≡ bytes.old ++ concat (instrument_lists packed.now)) }
 {
     for field in 0..9 {
-        push_field(bytes, packed.instruments.as_slice(), field)?;
+        push_read_field(bytes, packed, field)?;
     }
     Ok(())
 }
@@ -250,10 +270,11 @@ fn push_patterns(bytes: &mut ByteList, patterns: &[PackedPattern]) -> Result<(),
     Ok(())
 }
 
-/// The frequencies.
+/// The frequencies, behind their gap.
 fn push_frequency_lists(bytes: &mut ByteList, packed: &PackedSong) -> Result<(), NoMemory>
     ensures { OnOk result (bytes.new ≡ bytes.old ++ concat (frequency_lists packed.now)) }
 {
+    push_gap(bytes, packed)?;
     push_frequency_lows(bytes, packed)?;
     push_frequency_highs(bytes, packed)
 }

@@ -10,7 +10,7 @@ ghost use Rattle.song_lists.specs.ListLaws.{lists_size};
 
 use crate::marks::{Mark, MarkList};
 use crate::places::{
-    addresses_place, filter_place, highs_place, instruments, instruments_place, lows_place,
+    addresses_place, field_size, filter_place, highs_place, instruments_place, lows_place,
     patterns, periods_place, pulse_place, rows, slides_high_place, slides_low_place,
     speed_lefts_place, subtunes, wave_place,
 };
@@ -123,10 +123,10 @@ fn push_instrument_marks(
 ) -> Result<(), NoMemory>
     ensures { OnOk result (marks.new ≡ marks.old ++ instrument_marks dependent packed.now) }
 {
-    let place = instruments_place(packed, dependent);
-    let count = instruments(packed);
+    let mut place = instruments_place(packed, dependent);
     for field in 0..9 {
-        marks.push(mark_at(ADS + field, place + field * count))?;
+        marks.push(mark_at(ADS + field, place))?;
+        place += field_size(packed, field);
     }
     Ok(())
 }

@@ -5,13 +5,14 @@ ghost use Rattle.std.specs.List.{concat, flat_map};
 ghost use Rattle.player_memory.specs.SongLists.{FrequencyLows, FrequencyHighs};
 ghost use Rattle.song_lists.specs.DataLists.{kept_rows, speed_lefts_place, slides_low_place, slides_high_place};
 ghost use Rattle.song_lists.specs.DataLists.{periods_place, wave_place, pulse_place, filter_place, instruments_place};
-ghost use Rattle.song_lists.specs.DataLists.{addresses_place, orders_place, orders_of, places_from, order_places};
+ghost use Rattle.song_lists.specs.DataLists.{field_size, addresses_place, orders_place, orders_of, places_from};
+ghost use Rattle.song_lists.specs.DataLists.{order_places};
 ghost use Rattle.song_lists.specs.DataLists.{pattern_places, frequencies_place, bytes_back, label_place};
 ghost use Rattle.song_lists.specs.ListLaws.{lists_size};
 
 use base::{Items, NoMemory};
 use packed_form::{PackedOrder, PackedPattern, PackedSong, PackedSubtune};
-use player_memory::listed_numbers;
+use player_memory::{gap_size, is_read, unread_size};
 use song_model::Table;
 use std::alloc::Global;
 
@@ -135,12 +136,26 @@ pub(crate) fn instruments_place(packed: &PackedSong, dependent: bool) -> u16
     filter_place(packed, dependent) + 2 * rows(&packed.filter)
 }
 
+/// How many bytes the list of a field of the instruments has: one of each, or none.
+pub(crate) fn field_size(packed: &PackedSong, field: u16) -> u16
+    requires { field < 9 }
+    ensures size { result ≡ field_size packed.now field }
+    ensures most { result ≤ 63 }
+{
+    if is_read(packed, usize::from(field)) {
+        instruments(packed)
+    } else {
+        0
+    }
+}
+
 /// Where the addresses begin.
 pub(crate) fn addresses_place(packed: &PackedSong, dependent: bool) -> u16
     ensures place { result ≡ addresses_place dependent packed.now }
     ensures most { result ≤ 3377 }
 {
-    instruments_place(packed, dependent) + 9 * instruments(packed) + 1
+    let fields = 9 * instruments(packed) - unread_size(packed) as u16;
+    instruments_place(packed, dependent) + fields + 1
 }
 
 /// Where the orderlists begin.
@@ -156,14 +171,15 @@ fn frequencies_place(packed: &PackedSong, dependent: bool) -> u16
     requires { lists_size dependent packed.now ≤ 65535 }
     ensures { result ≡ frequencies_place dependent packed.now }
 {
-    2 + packed.size() as u16 + 3 * kept_rows(packed, dependent)
+    let read = packed.size() - unread_size(packed);
+    2 + read as u16 + 3 * kept_rows(packed, dependent) + gap_size(packed) as u16
 }
 
 /// How many bytes in front of them the label of the first list is.
 fn bytes_back(packed: &PackedSong) -> u16
     ensures { result ≡ bytes_back packed.now }
 {
-    let listed = listed_numbers(packed);
+    let listed = packed.numbers;
     if listed.first == 0 && listed.count == 0 {
         1
     } else {
@@ -186,8 +202,7 @@ pub(crate) fn highs_place(packed: &PackedSong, dependent: bool) -> u16
     ensures place { result ≡ label_place dependent packed.now FrequencyHighs }
     ensures most { result < 65535 }
 {
-    let listed = listed_numbers(packed);
-    frequencies_place(packed, dependent) + u16::from(listed.count) - bytes_back(packed)
+    frequencies_place(packed, dependent) + u16::from(packed.numbers.count) - bytes_back(packed)
 }
 
 /// How many bytes an orderlist has.

@@ -149,7 +149,7 @@ delay_leads : (r : Reader) (look : LookUps) (number : ℕ) (s : Playing) (handed
     Leads r (first_of delay_tree) (done_as (Ticking number r (noted (look.instrument number) s) handed d) ways) m
 delay_leads r look number s handed d ways m ground keeps at = (
   λ kept.
-      listed DELAYS number ((i.vibrato_delay + 255) % 256) ground.delay at.y_is
+      listed DELAYS number ((i.vibrato_delay + 255) % 256) (ground.delay kept) at.y_is
       (λ b e. record {
         done =
             own_done r.layout.holds r.voice (taken s) (noted i s) handed d m _ refl refl refl

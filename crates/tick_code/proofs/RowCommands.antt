@@ -65,7 +65,7 @@ bare_leads : (r : Reader) (look : LookUps) (number c p : ℕ) (u : Playing) (han
     Leads r (rest_of BARE tick_tree) (settled_ways r look (look.instrument number) c p u handed d ways) m
 bare_leads r look number c p u handed d ways m ground keeps none a at = (
   λ on. (
-    λ kept. listed VIBRATOS number vibrato ground.vibrato at.y_is (λ b e. settles _ (a on) refl refl refl e),
+    λ kept. listed VIBRATOS number vibrato (ground.vibrato kept) at.y_is (λ b e. settles _ (a on) refl refl refl e),
     λ out. settles _ (a on) refl refl refl (a on ∙ sym (none_unkept r.layout NOTE_VIBRATO vibrato keeps out)),
   ),
   λ off.

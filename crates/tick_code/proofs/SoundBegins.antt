@@ -113,13 +113,13 @@ abbrev wave_begun : Instrument → Playing → Playing
 wave_begun i s = record s { voice = record s.voice { wave_ptr = i.wave; ad = i.ad; sr = i.sr } }
 
 pulse_leads : (r : Reader) (look : LookUps) (number : ℕ) (s : Playing) (handed : Lent) (d : VoiceDesk)
-    (ways : Ways) (m : VoiceDesk) → InstrumentAt r look number → Ticking number r s handed d m →
-    Leads r (body_of NO_PULSE tick_tree)
+    (ways : Ways) (m : VoiceDesk) → InstrumentAt r look number → r.layout.holds NOTE_PULSE ≡ true →
+    Ticking number r s handed d m → Leads r (body_of NO_PULSE tick_tree)
     (in_scope NO_PULSE (done_as (Ticking number r (pulse_begun (look.instrument number) s) handed d) ways)) m
-pulse_leads r look number s handed d ways m ground at =
+pulse_leads r look number s handed d ways m ground kept at =
     let done : Done r.layout.holds r.voice s handed d m = at.done in
     let pulse = (look.instrument number).pulse in
-    listed PULSES number pulse ground.pulse at.y_is
+    listed PULSES number pulse (ground.pulse kept) at.y_is
     (λ b e. (
       λ zero.
           let test : nat_eq pulse 0 ≡ true = ap (λ n. nat_eq n 0) (sym e) ∙ zero in
@@ -142,16 +142,16 @@ pulse_leads r look number s handed d ways m ground at =
     ))
 
 filter_leads : (r : Reader) (look : LookUps) (number : ℕ) (s : Playing) (handed : Lent) (d : VoiceDesk)
-    (ways : Ways) (m : VoiceDesk) → InstrumentAt r look number → Ticking number r s handed d m →
-    Leads r (body_of NO_FILTER tick_tree)
+    (ways : Ways) (m : VoiceDesk) → InstrumentAt r look number → r.layout.holds NOTE_FILTER ≡ true →
+    Ticking number r s handed d m → Leads r (body_of NO_FILTER tick_tree)
     (in_scope NO_FILTER (done_as
     (Ticking number r (record s { common = filter_begun (look.instrument number) s.common }) handed d) ways)) m
-filter_leads r look number s handed d ways m ground at =
+filter_leads r look number s handed d ways m ground kept at =
     let done : Done r.layout.holds r.voice s handed d m = at.done in
     let filter = (look.instrument number).filter in
     let common = filter_begun (look.instrument number) s.common in
     let tempo = λ (its : ℕ). tempo_of (its + 1) s.common in
-    listed FILTERS number filter ground.filter at.y_is
+    listed FILTERS number filter (ground.filter kept) at.y_is
     (λ b e. (
       λ zero.
           let test : nat_eq filter 0 ≡ true = ap (λ n. nat_eq n 0) (sym e) ∙ zero in
@@ -253,7 +253,7 @@ begun_leads r look number waits s handed d ways Q m into ground keeps at =
           joined true r NO_FILTER (body_of NO_FILTER tick_tree) (rest_of NO_FILTER tick_tree)
           (Ticking number r second handed d) (done_as (Leads r (behind filter_tree) goal) goal) k
           (filter_leads r look number (pulse_begun i first) handed d
-          (done_as (Leads r (behind filter_tree) goal) goal) k ground at)
+          (done_as (Leads r (behind filter_tree) goal) goal) k ground kept at)
           (λ l filtered. wave_leads r look number second handed d ways Q l into ground filtered),
       λ out.
           wave_leads r look number second handed d ways Q k into ground
@@ -266,7 +266,7 @@ begun_leads r look number waits s handed d ways Q m into ground keeps at =
       λ kept.
           joined true r NO_PULSE (body_of NO_PULSE tick_tree) (rest_of NO_PULSE tick_tree)
           (Ticking number r (pulse_begun i first) handed d) (done_as (Leads r filter_tree goal) goal) n
-          (pulse_leads r look number first handed d (done_as (Leads r filter_tree goal) goal) n ground at) filters,
+          (pulse_leads r look number first handed d (done_as (Leads r filter_tree goal) goal) n ground kept at) filters,
       λ out.
           filters n (ticking_as number r first (pulse_begun i first) handed d n
           (no_pulse i first (none_unkept r.layout NOTE_PULSE i.pulse keeps.pulse out)) at),
@@ -318,7 +318,7 @@ effect_leads : (r : Reader) (look : LookUps) (number waits : ℕ) (s : Playing) 
     (done_as (Ticking number r (waved (note_taken (look.instrument number) s.voice) s) handed d) ways) m
 effect_leads r look number waits s handed d ways m ground keeps timed = (
   λ kept.
-      listed VIBRATOS number vibrato ground.vibrato timed.at.y_is
+      listed VIBRATOS number vibrato (ground.vibrato kept) timed.at.y_is
       (λ b e. record { done = begun _ b e refl refl refl; y_is = timed.at.y_is }),
   λ out. record {
     done =

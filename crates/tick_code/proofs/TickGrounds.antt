@@ -4,6 +4,7 @@ use Rattle.std.proofs.Common.{◌≡◌, ◌≢◌, ℕ, ◌+◌, ◌%◌, ◌<�
 use Rattle.play_model.specs.LookUps.{LookUps}
 use Rattle.play_model.specs.State.{Playing}
 use Rattle.play_model.specs.TickStep.{Ticked, tick_step}
+use Rattle.player_memory.specs.declared.conditions.TheConstants.{NOTE_VIBRATO, VIBRATO_DELAY, NOTE_PULSE, NOTE_FILTER}
 use Rattle.player_memory.specs.declared.labels.TheConstants.{ADS, SRS, WAVES, PULSES, FILTERS, VIBRATOS, DELAYS}
 use Rattle.player_memory.specs.declared.labels.TheConstants.{GATE_TIMERS, FIRST_WAVES}
 use Rattle.player_desk.proofs.Laws.{VoiceDesk, Reader, Ways, Lent, Done, Reads, place_at}
@@ -13,15 +14,18 @@ use Rattle.tick_code.specs.TickBlock.{IsRowDone}
 
 -- ---- what the code stands on
 
--- the bytes of an instrument; of its vibrato's delay one less stands there
+-- the bytes of an instrument, four of them where the lines that read them are kept; of its vibrato's delay one less
+-- stands there
 pub record InstrumentAt (r : Reader) (look : LookUps) (number : ℕ) : Type 0 where
   pub ad : Reads r (place_at r ADS number) (look.instrument number).ad
   pub sr : Reads r (place_at r SRS number) (look.instrument number).sr
   pub wave : Reads r (place_at r WAVES number) (look.instrument number).wave
-  pub pulse : Reads r (place_at r PULSES number) (look.instrument number).pulse
-  pub filter : Reads r (place_at r FILTERS number) (look.instrument number).filter
-  pub vibrato : Reads r (place_at r VIBRATOS number) (look.instrument number).vibrato
-  pub delay : Reads r (place_at r DELAYS number) (((look.instrument number).vibrato_delay + 255) % 256)
+  pub pulse : r.layout.holds NOTE_PULSE ≡ true → Reads r (place_at r PULSES number) (look.instrument number).pulse
+  pub filter : r.layout.holds NOTE_FILTER ≡ true → Reads r (place_at r FILTERS number) (look.instrument number).filter
+  pub vibrato : r.layout.holds NOTE_VIBRATO ≡ true →
+      Reads r (place_at r VIBRATOS number) (look.instrument number).vibrato
+  pub delay : r.layout.holds VIBRATO_DELAY ≡ true →
+      Reads r (place_at r DELAYS number) (((look.instrument number).vibrato_delay + 255) % 256)
   pub gate_timer : Reads r (place_at r GATE_TIMERS number) (look.instrument number).gate_timer
   pub first_wave : Reads r (place_at r FIRST_WAVES number) (look.instrument number).first_wave
   pub gate_timer_byte : (look.instrument number).gate_timer < 256

@@ -14,7 +14,8 @@ use Rattle.player_desk.proofs.Laws.{fields_stand, shared_stand}
 use Rattle.tick_code.specs.TickBlock.{HasInstrument, HasTickLists, IsInLists, KeepsCommand, KeepsTick}
 use Rattle.player_memory.specs.FactLines.{KeepsShared}
 use Rattle.player_memory.specs.declared.conditions.TheConstants.{FUNK_TEMPO}
-use Rattle.tick_code.specs.WorkedTick.{laid, bare, with_one, look, waiting, memory, TickIsWorked}
+use Rattle.tick_code.specs.WorkedTick.{laid, sound, bare, with_one, with_instrument, look, waiting, memory}
+use Rattle.tick_code.specs.WorkedTick.{FieldsAreRead, TickIsWorked}
 
 abbrev is_left : ℕ → Outcome → Bool
 is_left name (Left other) = nat_eq other name
@@ -71,18 +72,32 @@ listed_at : (label byte : ℕ) → 0x2000 ≤ place_in laid label 1 → place_in
 listed_at label byte from to is =
     record { elsewhere = elsewhere (place_in laid label 1) from to; reads = refl; is = is }
 
-first : HasInstrument laid 1 memory look 1
-first = record {
+-- where the lines of pulse programs and of vibratos aren't kept, these bytes may be others
+first_with : (pulse vibrato : ℕ) →
+    HasInstrument laid 1 memory (with_instrument (record sound { pulse = pulse; vibrato = vibrato })) 1
+first_with pulse vibrato = record {
   ad = listed_at ADS 0x12 (omega arith) (omega arith) refl;
   sr = listed_at SRS 0x34 (omega arith) (omega arith) refl;
   wave = listed_at WAVES 1 (omega arith) (omega arith) refl;
-  pulse = listed_at PULSES 0 (omega arith) (omega arith) refl;
-  filter = listed_at FILTERS 2 (omega arith) (omega arith) refl;
-  vibrato = listed_at VIBRATOS 0 (omega arith) (omega arith) refl;
-  delay = listed_at DELAYS 2 (omega arith) (omega arith) refl;
+  pulse = λ kept. absurd cc;
+  filter = λ kept. listed_at FILTERS 2 (omega arith) (omega arith) refl;
+  vibrato = λ kept. absurd cc;
+  delay = λ kept. listed_at DELAYS 2 (omega arith) (omega arith) refl;
   gate_timer = listed_at GATE_TIMERS 0x42 (omega arith) (omega arith) refl;
   first_wave = listed_at FIRST_WAVES 9 (omega arith) (omega arith) refl;
   gate_timer_byte = omega arith;
+}
+
+first : HasInstrument laid 1 memory look 1
+first = first_with 0 0
+
+fields_are_read : FieldsAreRead
+fields_are_read = record {
+  unread = first_with 7 8;
+  pulse = λ has. (let byte = (has.pulse refl).is in omega (arith, byte));
+  vibrato = λ has. (let byte = (has.vibrato refl).is in omega (arith, byte));
+  filter = λ has. (let byte = (has.filter refl).is in omega (arith, byte));
+  delay = λ has. (let byte = (has.delay refl).is in omega (arith, byte));
 }
 
 lists : HasTickLists laid 1 memory look 1 0
@@ -403,6 +418,7 @@ tick_is_worked = record {
       speed = λ e. omega arith;
     };
   };
+  fields = fields_are_read;
   others = record {
     goes_on = λ ticks. (let e = ticks.way in absurd (cc));
     elsewhere = λ ticks. (let e = ticks.way in both_ways (is_left SOUNDS (Left TICKED)) refl (ap (is_left SOUNDS) e));

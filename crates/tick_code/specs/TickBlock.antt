@@ -75,16 +75,20 @@ pub record KeepsTick (layout : Layout) (channel : ℕ) (look : LookUps) (s : Pla
 
 -- ---- what is read
 
--- An instrument's bytes stand in nine lists. Its vibrato's delay stands there less one, 255 for none, and its gateoff
--- timer with all bits.
+-- An instrument's bytes stand in nine lists, of which the player has four only where it keeps the lines that read them.
+-- Its vibrato's delay stands there less one, 255 for none, and its gateoff timer with all bits.
 pub record HasInstrument (layout : Layout) (rows : ℕ) (at : ℕ → ℕ) (look : LookUps) (number : ℕ) : Type 0 where
   pub ad : IsListed layout rows at ADS number (look.instrument number).ad
   pub sr : IsListed layout rows at SRS number (look.instrument number).sr
   pub wave : IsListed layout rows at WAVES number (look.instrument number).wave
-  pub pulse : IsListed layout rows at PULSES number (look.instrument number).pulse
-  pub filter : IsListed layout rows at FILTERS number (look.instrument number).filter
-  pub vibrato : IsListed layout rows at VIBRATOS number (look.instrument number).vibrato
-  pub delay : IsListed layout rows at DELAYS number (((look.instrument number).vibrato_delay + 255) % 256)
+  pub pulse : layout.holds NOTE_PULSE ≡ true →
+      IsListed layout rows at PULSES number (look.instrument number).pulse
+  pub filter : layout.holds NOTE_FILTER ≡ true →
+      IsListed layout rows at FILTERS number (look.instrument number).filter
+  pub vibrato : layout.holds NOTE_VIBRATO ≡ true →
+      IsListed layout rows at VIBRATOS number (look.instrument number).vibrato
+  pub delay : layout.holds VIBRATO_DELAY ≡ true →
+      IsListed layout rows at DELAYS number (((look.instrument number).vibrato_delay + 255) % 256)
   pub gate_timer : IsListed layout rows at GATE_TIMERS number (look.instrument number).gate_timer
   pub first_wave : IsListed layout rows at FIRST_WAVES number (look.instrument number).first_wave
   pub gate_timer_byte : (look.instrument number).gate_timer < 256

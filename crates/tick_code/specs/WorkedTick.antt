@@ -14,7 +14,7 @@ use Rattle.player_memory.specs.declared.conditions.TheConstants.{SET_PULSE_POINT
 use Rattle.player_memory.specs.declared.conditions.TheConstants.{SET_FILTER_CONTROL, SET_CUTOFF, SET_VOLUME, FUNK_TEMPO}
 use Rattle.player_memory.specs.declared.conditions.TheConstants.{VOICE_TEMPO, FUNK_TURNS, FUNK_CHOICE}
 use Rattle.player_memory.specs.declared.conditions.TheConstants.{SET_TEMPO, ROW_SLIDE, ROW_ONCE, ROW_COMMAND}
-use Rattle.player_memory.specs.declared.conditions.TheConstants.{VIBRATO_DELAY, NOTE_FILTER}
+use Rattle.player_memory.specs.declared.conditions.TheConstants.{VIBRATO_DELAY, NOTE_FILTER, NOTE_PULSE, NOTE_VIBRATO}
 use Rattle.player_memory.specs.declared.labels.TheConstants.{VARIABLES, TICK, GATE_TIMER, INSTRUMENT, NOTE, NEW_NOTE}
 use Rattle.player_memory.specs.declared.labels.TheConstants.{NEW_COMMAND, NEW_PARAM, AD, VIB_DELAY, WAVE, GATE, TEMPO}
 use Rattle.player_memory.specs.declared.labels.TheConstants.{FILTER_POINTER, VOLUME, FUNK_ONE, FUNK_TWO, ADS, SRS}
@@ -22,7 +22,7 @@ use Rattle.player_memory.specs.declared.labels.TheConstants.{WAVES, FILTERS, DEL
 use Rattle.player_memory.specs.Rooms.{IsRoom, MayUse}
 use Rattle.player_memory.specs.Playing.{own_at, shared_at, IsPlaying, IsAtVoice}
 use Rattle.player_text.specs.declared.joints.TheConstants.{SOUNDS, TICKED}
-use Rattle.tick_code.specs.TickBlock.{tick_tree, HasTickLists, IsInLists, KeepsCommand, KeepsRow}
+use Rattle.tick_code.specs.TickBlock.{tick_tree, HasInstrument, HasTickLists, IsInLists, KeepsCommand, KeepsRow}
 use Rattle.tick_code.specs.TickBlock.{KeepsTick, Ticks}
 
 -- ---- the memory
@@ -223,6 +223,19 @@ pub record ListsAreMet : Type 0 where
   pub last_row : IsInLists 1 255 (with_command 0xE 255)
   pub no_row : IsInLists 1 0 (with_command 0xE 0)
 
+-- the sound with other bytes than those in the memory where no line is kept that reads them
+abbrev pub unread_sound : Instrument
+unread_sound = record sound { pulse = 7; vibrato = 8 }
+
+-- That instrument is there, too. Where its line is kept, its pulse program isn't, nor its vibrato; nor is one with
+-- another filter program or with another delay.
+pub record FieldsAreRead : Type 0 where
+  pub unread : HasInstrument laid 1 memory (with_instrument unread_sound) 1
+  pub pulse : ¬ HasInstrument (with_one NOTE_PULSE) 1 memory (with_instrument unread_sound) 1
+  pub vibrato : ¬ HasInstrument (with_one NOTE_VIBRATO) 1 memory (with_instrument unread_sound) 1
+  pub filter : ¬ HasInstrument laid 1 memory (with_instrument (record sound { filter = 7 })) 1
+  pub delay : ¬ HasInstrument laid 1 memory (with_instrument (record sound { vibrato_delay = 7 })) 1
+
 -- ---- what it isn't
 
 -- the block's run from there, with another way or another memory
@@ -245,4 +258,5 @@ pub record TickIsWorked : Type 0 where
   pub lengths : LengthsAreKept
   pub rows : RowsAreKept
   pub lists : ListsAreMet
+  pub fields : FieldsAreRead
   pub others : OthersAreDenied

@@ -10,7 +10,7 @@ pub fn tick_block_steps()
     ensures { TickBlockSteps }
 {}
 
-/// In a scope that it leaves where a note has started, the block has lines, whichever conditions hold. They take 86 to
+/// In a scope that it leaves where a note has started, the block has lines, whichever conditions hold. They take 82 to
 /// 381 bytes.
 pub fn tick_block_has_lines()
     ensures { TickBlockHasLines }

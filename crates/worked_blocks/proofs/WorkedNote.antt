@@ -26,6 +26,7 @@ use Rattle.worked_blocks.specs.WorkedNote.{note_packed, note_layout, mixed_layou
 use Rattle.worked_blocks.specs.WorkedNote.{NoteBegins, NoteTurns, NotesAreWorked}
 use Rattle.frame_code.proofs.Laws.{beginnings_start}
 use Rattle.player_memory.proofs.Laws.{InOnePiece, in_one_piece, off_piece, list_behind}
+use Rattle.player_memory.proofs.Laws.{read_below}
 
 -- ---- places
 
@@ -97,11 +98,11 @@ here : (any : PackedSong) (list : SongList) (first count : ℕ) → all_stand an
     IsListed note_layout 1 note_memory (list_label list) number (list_byte note_layout (note_packed any) list number)
 here any list first count test number from to = listed note_memory any list first count test number from to
 
-lows_stand : (any : PackedSong) → all_stand any FrequencyLows 44 5 ≡ true
+lows_stand : (any : PackedSong) → all_stand any FrequencyLows 48 1 ≡ true
 unfolding freq
 lows_stand any = refl
 
-highs_stand : (any : PackedSong) → all_stand any FrequencyHighs 44 5 ≡ true
+highs_stand : (any : PackedSong) → all_stand any FrequencyHighs 48 1 ≡ true
 unfolding freq
 highs_stand any = refl
 
@@ -137,8 +138,8 @@ order_few any (suc more) channel number one few has = absurd (omega (arith, one)
 
 lists_stand : (any : PackedSong) → ListsStand note_layout (note_packed any) note_memory
 unfolding table_row
-lists_stand any FrequencyLows number is has = here any FrequencyLows 44 5 (lows_stand any) number has.from has.to
-lists_stand any FrequencyHighs number is has = here any FrequencyHighs 44 5 (highs_stand any) number has.from has.to
+lists_stand any FrequencyLows number is has = here any FrequencyLows 48 1 (lows_stand any) number has.from has.to
+lists_stand any FrequencyHighs number is has = here any FrequencyHighs 48 1 (highs_stand any) number has.from has.to
 lists_stand any (Lefts Wave) number is has = here any (Lefts Wave) 1 2 refl number has.from has.to
 lists_stand any (Lefts Pulse) number is has = here any (Lefts Pulse) 1 2 refl number has.from has.to
 lists_stand any (Lefts Filter) number is has = here any (Lefts Filter) 1 0 refl number has.from has.to
@@ -149,7 +150,8 @@ lists_stand any (Rights Filter) number is has = here any (Rights Filter) 1 0 ref
 lists_stand any (Rights Speed) number is has = here any (Rights Speed) 0 1 refl number has.from has.to
 lists_stand any Periods number is has = here any Periods 0 1 refl number has.from has.to
 lists_stand any (Instruments field) number is has =
-    here any (Instruments field) 1 1 (instruments_stand any field is) number has.from has.to
+    here any (Instruments field) 1 1 (instruments_stand any field (read_below (note_packed any) field is)) number
+    has.from has.to
 lists_stand any OrderLows number is has = here any OrderLows 0 3 refl number has.from has.to
 lists_stand any OrderHighs number is has = here any OrderHighs 0 3 refl number has.from has.to
 lists_stand any PatternLows number is has = here any PatternLows 0 2 refl number has.from has.to
@@ -332,10 +334,10 @@ no_wave any has =
     let is : 0x11 ≡ 0x41 = (has.lists (Lefts Wave) 1 tt (record { from = omega arith; to = omega arith })).is in
     omega (arith, is)
 
-no_first : (any : PackedSong) → ¬ HasSongLists note_layout (note_packed any) (put note_memory 0x202C 1)
+no_first : (any : PackedSong) → ¬ HasSongLists note_layout (note_packed any) (put note_memory 0x2030 1)
 unfolding freq
 no_first any has =
-    let is : 1 ≡ 0xD0 = (has.lists FrequencyLows 44 tt (record { from = omega arith; to = omega arith })).is in
+    let is : 1 ≡ 0x68 = (has.lists FrequencyLows 48 tt (record { from = omega arith; to = omega arith })).is in
     omega (arith, is)
 
 no_last : (any : PackedSong) → ¬ HasSongLists note_layout (note_packed any) (put note_memory 0x2230 1)

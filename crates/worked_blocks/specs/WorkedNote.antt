@@ -124,9 +124,9 @@ pub record NoteIsLaid (packed : PackedSong) : Type 0 where
   pub one : ¬ ClearsVariables note_layout packed 1 (put note_memory 0x1001 1)
   pub mixed : ¬ ClearsVariables mixed_layout packed VARIABLES note_memory
   pub lists : HasSongLists note_layout packed note_memory
-  -- another byte in a list; as it has 42 bytes, and two more stand in front of the frequencies, these begin at number 44
+  -- another byte in a list; of the frequencies there is that of number 48 alone
   pub wave : ¬ HasSongLists note_layout packed (put note_memory 0x2701 0x11)
-  pub first_frequency : ¬ HasSongLists note_layout packed (put note_memory 0x202C 1)
+  pub first_frequency : ¬ HasSongLists note_layout packed (put note_memory 0x2030 1)
   pub last_frequency : ¬ HasSongLists note_layout packed (put note_memory 0x2230 1)
   pub order : ¬ HasSongLists note_layout packed (put note_memory 0x4002 1)
   pub pattern : ¬ HasSongLists note_layout packed (put note_memory 0x5101 1)

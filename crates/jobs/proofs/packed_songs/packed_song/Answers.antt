@@ -2,6 +2,7 @@ use Rattle.std.proofs.Common.{refl, subst, ap, length}
 use Rattle.song_pack.specs.Answers.{IsCause}
 use Rattle.song_pack.specs.Numbers.{sets_of}
 use Rattle.song_pack.proofs.Laws.{used_sets}
+use Rattle.song_costs.proofs.Laws.{instruments_are}
 use Rattle.jobs.specs.Lines.{too_large_line}
 use Rattle.jobs.specs.Endings as ends
 use Rattle.jobs.proofs.packed_songs.packed_song.Goals as goal
@@ -14,6 +15,9 @@ returns-in-Ok-clause-packs c = λ keeps.
       used = sets_of c.args.parts.now;
       are_used = used;
       size = (c.in-Ok.ensures.size (sets_of c.args.parts.now) used keeps).is;
+      instruments =
+          instruments_are c.args.song.now (sets_of c.args.parts.now) _
+          (c.in-Ok.ensures.exact (sets_of c.args.parts.now) used keeps);
       speeds = ap length (c.in-Ok.ensures.exact (sets_of c.args.parts.now) used keeps).speed.rows_are;
     }
 

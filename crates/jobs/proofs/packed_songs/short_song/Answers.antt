@@ -2,6 +2,7 @@ use Rattle.std.proofs.Common.{subst, ap, length}
 use Rattle.song_pack.specs.Answers.{IsCause}
 use Rattle.song_pack.specs.Numbers.{sets_of}
 use Rattle.song_pack.proofs.Laws.{used_sets}
+use Rattle.song_costs.proofs.Laws.{instruments_are}
 use Rattle.jobs.proofs.Measured.{short_is_not_long}
 use Rattle.jobs.proofs.packed_songs.short_song.Goals as goal
 
@@ -23,5 +24,8 @@ returns-in-Ok-pack_song c =
       used = sets_of parts;
       are_used = used;
       size = (c.in-Ok-pack_song.ensures.size (sets_of parts) used c.requires.limits).is;
+      instruments =
+          instruments_are c.args.song.now (sets_of parts) _
+          (c.in-Ok-pack_song.ensures.exact (sets_of parts) used c.requires.limits);
       speeds = ap length (c.in-Ok-pack_song.ensures.exact (sets_of parts) used c.requires.limits).speed.rows_are;
     }

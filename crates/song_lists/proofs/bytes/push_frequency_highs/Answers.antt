@@ -2,7 +2,6 @@
 use Rattle.std.proofs.Common.{◌≡◌, ℕ, ◌+◌, ◌-◌, ◌≤◌, ◌/◌, ◌++◌, [], ◌∷◌, List, map, ap, ◌∙◌, subst, arith}
 use Rattle.std.specs.List.{range_with_len}
 use Rattle.play_model.specs.Freq.{freq}
-use Rattle.player_memory.specs.SongLists.{first_listed, frequencies_listed}
 use Rattle.song_lists.specs.DataLists.{frequency_highs}
 use Rattle.song_lists.proofs.ByteSteps.{more_from}
 use Rattle.song_lists.proofs.bytes.push_frequency_highs.Goals as goal
@@ -19,7 +18,7 @@ one_more start before after from n byte le old new is =
 pub loop-n-preserved : goal.loop-n-preserved
 loop-n-preserved c = record {
   from = let from = c.loop-n.invariant.from in omega arith;
-  bytes = one_more c.args.bytes.now c.loop-n.bytes c.push.new.self (first_listed c.args.packed.now) c.loop-n.n
+  bytes = one_more c.args.bytes.now c.loop-n.bytes c.push.new.self c.args.packed.now.numbers.first c.loop-n.n
       (c.freq.result / 256) c.loop-n.invariant.from c.loop-n.invariant.bytes c.in_ok-push.ensures.ok
       (ap (λ (n : ℕ). n / 256) c.freq.ensures);
 }
@@ -27,9 +26,7 @@ loop-n-preserved c = record {
 pub returns : goal.returns
 unfolding frequency_highs
 returns c =
-    let first = c.listed_numbers-listed.ensures.first in
-    let count = c.listed_numbers-listed.ensures.count in
-    let all : c.loop-n.n - first_listed c.args.packed.now ≡ frequencies_listed c.args.packed.now = omega arith in
+    let all : c.loop-n.n - c.args.packed.now.numbers.first ≡ c.args.packed.now.numbers.count = omega arith in
     subst (λ (count : ℕ). c.loop-n.bytes
-    ≡ c.args.bytes.now ++ map (λ n. freq n / 256) (range_with_len (first_listed c.args.packed.now) count)) all
+    ≡ c.args.bytes.now ++ map (λ n. freq n / 256) (range_with_len c.args.packed.now.numbers.first count)) all
     c.loop-n.invariant.bytes
