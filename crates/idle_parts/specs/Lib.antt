@@ -6,5 +6,6 @@ pub mod Fronts
 pub mod Places
 pub mod LeftOut
 pub mod KeptBytes
+pub mod NeededRows
 -- Worked by hand.
 pub mod WorkedParts

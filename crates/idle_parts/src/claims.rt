@@ -12,6 +12,8 @@ ghost use Rattle.idle_parts.specs.Fronts.{NotesAreFound, LentAreFound, PlaysAreF
 ghost use Rattle.idle_parts.specs.PartList.{PartsAreThese};
 ghost use Rattle.idle_parts.specs.Places.{PartsAreComeTo, OnceIsComeTo, RowsLeave, SlidesLeave, RowsEnd};
 ghost use Rattle.idle_parts.specs.KeptBytes.{FilterLoads, VoiceLoads, StoresIdle, ReadWhereKept, PairsAreKept};
+ghost use Rattle.player_text.specs.declared.texts.Start.{Start};
+ghost use Rattle.idle_parts.specs.NeededRows.{RowsAreNeeded};
 ghost use Rattle.idle_parts.specs.WorkedParts.{PartsAreWorked};
 
 /// Where a memory holds a state that keeps clear of a part, the part's lines come to their own end, and leave each
@@ -70,6 +72,11 @@ pub fn bytes_can_be_left_out()
     ensures stores { StoresIdle }
     ensures reads { ReadWhereKept }
     ensures pairs { PairsAreKept }
+{}
+
+/// Each condition under which a variable has a byte is one that some line asks for, with what is none.
+pub fn conditions_are_needed()
+    ensures { (start : Start) → RowsAreNeeded start }
 {}
 
 /// Lines that do something, or change a register.
