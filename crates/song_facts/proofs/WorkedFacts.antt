@@ -16,8 +16,9 @@ use Rattle.song_facts.specs.declared.facts.Fact.{Fact}
 use Rattle.song_facts.specs.declared.facts.Fact.TheVariants.{RowTone, RowSlide, RowOnce, FirstMask, Legato, NoHardRestart}
 use Rattle.song_facts.specs.declared.facts.Fact.TheVariants.{WaveDelay, GateNote, NoteVibrato, VibratoDelay, NotePulse, NoteFilter}
 use Rattle.song_facts.specs.declared.facts.Fact.TheVariants.{VoiceTempo, CommonTempo, FunkTurns, FunkChoice}
-use Rattle.song_facts.specs.Facts.{IsMask, is_among, no_facts, HasSuchRow, HasSuchInstrument, HasFact}
-use Rattle.song_facts.specs.WorkedFacts.{RowsAreTold, InstrumentsAreTold, SongsAreTold, SetsAreTold, wave_of}
+use Rattle.song_facts.specs.declared.facts.Fact.TheVariants.{OwnTimer, OwnWave}
+use Rattle.song_facts.specs.Facts.{IsMask, is_among, no_facts, HasSuchRow, HasSuchInstrument, HasSuchPair, HasFact}
+use Rattle.song_facts.specs.WorkedFacts.{RowsAreTold, InstrumentsAreTold, SongsAreTold, SetsAreTold, wave_of, two_of}
 
 pub rows_are_told : RowsAreTold
 rows_are_told = record {
@@ -68,14 +69,19 @@ instruments_are_told = record {
   no_pulse = λ e. e refl;
   filter = λ e. omega (arith, e);
   no_filter = λ e. e refl;
+  timers = λ e. omega (arith, e);
+  same_timer = λ e. e refl;
+  waves = λ e. omega (arith, e);
+  same_wave = λ e. e refl;
 }
 
 -- ---- songs that have a fact
 
--- the first row of pattern 0 is used in the song of one note with these rows
-first_used : (r : Row) → IsUsedRow (with_rows (r ∷ []) one_note) r
+-- the first row of pattern 0 is used in the song of one note with these rows, and with these instruments
+first_used_by : (instruments : List Instrument) (r : Row) →
+    IsUsedRow (record (with_rows (r ∷ []) one_note) { instruments = instruments }) r
 unfolding pattern_at
-first_used r = record {
+first_used_by instruments r = record {
   pattern = 0;
   used = record {
     byte = record {
@@ -93,6 +99,19 @@ first_used r = record {
   };
   has = (0, omega arith, refl);
 }
+
+first_used : (r : Row) → IsUsedRow (with_rows (r ∷ []) one_note) r
+first_used r = first_used_by (plucked ∷ []) r
+
+-- instruments 1 and 2 are used where the only row names the second
+second_used : (one other : Instrument) → IsUsedInstrument (two_of one other) 2
+second_used one other =
+    inr (record {
+      row = row 0x90 2 0 0;
+      used = first_used_by (one ∷ other ∷ []) (row 0x90 2 0 0);
+      names = refl;
+      some = λ e. omega (arith, e);
+    })
 
 key_off_used : IsUsedRow one_note (row 0xBE 0 0 0)
 unfolding pattern_at
@@ -143,6 +162,15 @@ such_first : (song : Song) → playable_subtunes song ≡ [] → (IsSuch : Instr
 such_first song none IsSuch has =
     subst (λ (i : ℕ). IsSuch (instrument_at song i)) (first_alone song none has.instrument has.used) has.is_such
 
+-- no two instruments are used
+no_pair : (song : Song) → playable_subtunes song ≡ [] → (Differ : Instrument → Instrument → Type 0) →
+    ¬ Differ (instrument_at song 1) (instrument_at song 1) → ¬ HasSuchPair song Differ
+no_pair song none Differ same has =
+    same (subst (λ (i : ℕ). Differ (instrument_at song i) (instrument_at song 1))
+    (first_alone song none has.one has.one_used)
+    (subst (λ (i : ℕ). Differ (instrument_at song has.one) (instrument_at song i))
+    (first_alone song none has.other has.other_used) has.differ))
+
 no_pointer : (song : Song) → playable_subtunes song ≡ [] → (instrument_at song 1).wave ≡ 0 → (p : ℕ) →
     ¬ IsPlayedPointer song Wave p
 no_pointer song none zero_is p (of_instrument i used is some) =
@@ -186,9 +214,25 @@ songs_are_told = record {
   };
   turns = record { row = row 0x90 1 0xF 0; used = first_used (row 0x90 1 0xF 0); is_such = (refl, omega arith) };
   choice = record { row = row 0x90 1 0xE 0; used = first_used (row 0x90 1 0xE 0); is_such = refl };
+  timers = record {
+    one = 1;
+    other = 2;
+    one_used = inl refl;
+    other_used = second_used plucked _;
+    differ = λ e. omega (arith, e);
+  };
+  waves = record {
+    one = 1;
+    other = 2;
+    one_used = inl refl;
+    other_used = second_used plucked _;
+    differ = λ e. omega (arith, e);
+  };
   not_played = λ has. no_such_row _ refl _ has;
   not_named = λ has. plain (such_first _ refl IsMask has);
   not_reached = λ has. none_reached _ refl refl has.p has.reached;
+  timer_not_named = λ has. no_pair _ refl _ (λ differ. differ refl) has;
+  wave_not_named = λ has. no_pair _ refl _ (λ differ. differ refl) has;
 }
   where
     plain : ¬ IsMask plucked
@@ -215,6 +259,8 @@ fact_of_empty VoiceTempo has = absurd (no_such_row empty_song refl _ has)
 fact_of_empty CommonTempo has = absurd (no_such_row empty_song refl _ has)
 fact_of_empty FunkTurns has = absurd (no_such_row empty_song refl _ has)
 fact_of_empty FunkChoice has = absurd (no_such_row empty_song refl _ has)
+fact_of_empty OwnTimer has = absurd (no_pair empty_song refl _ (λ differ. differ refl) has)
+fact_of_empty OwnWave has = absurd (no_pair empty_song refl _ (λ differ. differ refl) has)
 
 other : (fact : Fact) → ¬ (fact ≡ FirstMask) → ¬ HasFact empty_song fact
 other fact not has = not (fact_of_empty fact has)
@@ -240,6 +286,8 @@ empty_has VoiceTempo = (λ on. absurd cc, λ has. absurd (other VoiceTempo (λ e
 empty_has CommonTempo = (λ on. absurd cc, λ has. absurd (other CommonTempo (λ e. cc) has))
 empty_has FunkTurns = (λ on. absurd cc, λ has. absurd (other FunkTurns (λ e. cc) has))
 empty_has FunkChoice = (λ on. absurd cc, λ has. absurd (other FunkChoice (λ e. cc) has))
+empty_has OwnTimer = (λ on. absurd cc, λ has. absurd (other OwnTimer (λ e. cc) has))
+empty_has OwnWave = (λ on. absurd cc, λ has. absurd (other OwnWave (λ e. cc) has))
 
 pub sets_are_told : SetsAreTold
 sets_are_told = record {

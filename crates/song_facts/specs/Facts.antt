@@ -1,6 +1,6 @@
--- Facts of a song: what of all that it uses has a kind that a player may do without where there is none. This is this
--- project's profile of the GoatTracker 2 readme's rows, instruments and wave table.
-use Rattle.std.specs.Prelude.{◌≡◌, ◌≢◌, ℕ, ◌<◌, ◌≤◌, ◌⊎◌, ◌↔◌, Bool, true, false, bit_and}
+-- Facts of a song: what of all that it uses has a kind that a player may do without where there is none, and in what two
+-- of its instruments differ. This is this project's profile of the GoatTracker 2 readme's rows, instruments and wave table.
+use Rattle.std.specs.Prelude.{◌≡◌, ◌≢◌, ℕ, ◌%◌, ◌<◌, ◌≤◌, ◌⊎◌, ◌↔◌, Bool, true, false, bit_and}
 use Rattle.song_model.specs.declared.rows.Row.{Row}
 use Rattle.song_model.specs.declared.instruments.Instrument.{Instrument}
 use Rattle.song_model.specs.declared.tables.TableRow.{TableRow}
@@ -14,6 +14,7 @@ use Rattle.song_facts.specs.declared.facts.Facts.{Facts}
 use Rattle.song_facts.specs.declared.facts.Fact.TheVariants.{RowTone, RowSlide, RowOnce, FirstMask, Legato, NoHardRestart}
 use Rattle.song_facts.specs.declared.facts.Fact.TheVariants.{WaveDelay, GateNote, NoteVibrato, VibratoDelay, NotePulse, NoteFilter}
 use Rattle.song_facts.specs.declared.facts.Fact.TheVariants.{VoiceTempo, CommonTempo, FunkTurns, FunkChoice}
+use Rattle.song_facts.specs.declared.facts.Fact.TheVariants.{OwnTimer, OwnWave}
 
 -- the number of a fact
 abbrev pub number_of : Fact → ℕ
@@ -33,6 +34,8 @@ number_of VoiceTempo = 12
 number_of CommonTempo = 13
 number_of FunkTurns = 14
 number_of FunkChoice = 15
+number_of OwnTimer = 16
+number_of OwnWave = 17
 
 -- ---- rows of patterns
 
@@ -95,6 +98,20 @@ HasPulse i = i.pulse ≢ 0
 abbrev pub HasFilter : Instrument → Type 0
 HasFilter i = i.filter ≢ 0
 
+-- ---- two instruments
+
+-- the low six bits of a gateoff timer are the frames from a row's fetch to its tick 0
+abbrev pub timer_of : Instrument → ℕ
+timer_of i = i.gate_timer % 64
+
+-- two differ in it
+abbrev pub DifferInTimer : Instrument → Instrument → Type 0
+DifferInTimer one other = timer_of one ≢ timer_of other
+
+-- or in the first frame's waveform
+abbrev pub DifferInWave : Instrument → Instrument → Type 0
+DifferInWave one other = one.first_wave ≢ other.first_wave
+
 -- ---- rows of the wave table
 
 -- a left side below $10 is a delay
@@ -121,6 +138,8 @@ IsOfRow VoiceTempo = IsVoiceTempo
 IsOfRow CommonTempo = IsCommonTempo
 IsOfRow FunkTurns = IsFunkTurns
 IsOfRow FunkChoice = IsFunkChoice
+IsOfRow OwnTimer = λ row. ⊥
+IsOfRow OwnWave = λ row. ⊥
 
 -- an instrument
 abbrev pub IsOfInstrument : Fact → Instrument → Type 0
@@ -140,6 +159,29 @@ IsOfInstrument VoiceTempo = λ i. ⊥
 IsOfInstrument CommonTempo = λ i. ⊥
 IsOfInstrument FunkTurns = λ i. ⊥
 IsOfInstrument FunkChoice = λ i. ⊥
+IsOfInstrument OwnTimer = λ i. ⊥
+IsOfInstrument OwnWave = λ i. ⊥
+
+-- two instruments
+abbrev pub IsOfPair : Fact → Instrument → Instrument → Type 0
+IsOfPair RowTone = λ one other. ⊥
+IsOfPair RowSlide = λ one other. ⊥
+IsOfPair RowOnce = λ one other. ⊥
+IsOfPair FirstMask = λ one other. ⊥
+IsOfPair Legato = λ one other. ⊥
+IsOfPair NoHardRestart = λ one other. ⊥
+IsOfPair WaveDelay = λ one other. ⊥
+IsOfPair GateNote = λ one other. ⊥
+IsOfPair NoteVibrato = λ one other. ⊥
+IsOfPair VibratoDelay = λ one other. ⊥
+IsOfPair NotePulse = λ one other. ⊥
+IsOfPair NoteFilter = λ one other. ⊥
+IsOfPair VoiceTempo = λ one other. ⊥
+IsOfPair CommonTempo = λ one other. ⊥
+IsOfPair FunkTurns = λ one other. ⊥
+IsOfPair FunkChoice = λ one other. ⊥
+IsOfPair OwnTimer = DifferInTimer
+IsOfPair OwnWave = DifferInWave
 
 -- a row of the wave table
 abbrev pub IsOfWaveRow : Fact → TableRow → Type 0
@@ -159,6 +201,8 @@ IsOfWaveRow VoiceTempo = λ row. ⊥
 IsOfWaveRow CommonTempo = λ row. ⊥
 IsOfWaveRow FunkTurns = λ row. ⊥
 IsOfWaveRow FunkChoice = λ row. ⊥
+IsOfWaveRow OwnTimer = λ row. ⊥
+IsOfWaveRow OwnWave = λ row. ⊥
 
 -- ---- songs
 
@@ -173,6 +217,14 @@ pub record HasSuchInstrument (song : Song) (IsSuch : Instrument → Type 0) : Ty
   pub instrument : ℕ
   pub used : IsUsedInstrument song instrument
   pub is_such : IsSuch (instrument_at song instrument)
+
+-- two used instruments differ in such a way
+pub record HasSuchPair (song : Song) (Differ : Instrument → Instrument → Type 0) : Type 0 where
+  pub one : ℕ
+  pub other : ℕ
+  pub one_used : IsUsedInstrument song one
+  pub other_used : IsUsedInstrument song other
+  pub differ : Differ (instrument_at song one) (instrument_at song other)
 
 -- a row of the wave table that programs come to is such
 pub record HasSuchWaveRow (song : Song) (IsSuch : TableRow → Type 0) : Type 0 where
@@ -198,6 +250,8 @@ HasFact song VoiceTempo = HasSuchRow song IsVoiceTempo
 HasFact song CommonTempo = HasSuchRow song IsCommonTempo
 HasFact song FunkTurns = HasSuchRow song IsFunkTurns
 HasFact song FunkChoice = HasSuchRow song IsFunkChoice
+HasFact song OwnTimer = HasSuchPair song DifferInTimer
+HasFact song OwnWave = HasSuchPair song DifferInWave
 
 -- whether a fact is among these
 abbrev pub is_among : Facts → Fact → Bool
@@ -217,6 +271,8 @@ is_among facts VoiceTempo = facts.voice_tempo
 is_among facts CommonTempo = facts.common_tempo
 is_among facts FunkTurns = facts.funk_turns
 is_among facts FunkChoice = facts.funk_choice
+is_among facts OwnTimer = facts.own_timer
+is_among facts OwnWave = facts.own_wave
 
 -- these are the song's facts: those that it has, and no others
 pub record AreFacts (song : Song) (facts : Facts) : Type 0 where
@@ -245,6 +301,8 @@ no_facts = record {
   common_tempo = false;
   funk_turns = false;
   funk_choice = false;
+  own_timer = false;
+  own_wave = false;
 }
 
 -- of one that has all
@@ -266,4 +324,6 @@ all_facts = record {
   common_tempo = true;
   funk_turns = true;
   funk_choice = true;
+  own_timer = true;
+  own_wave = true;
 }

@@ -2,12 +2,14 @@
 use Rattle.std.specs.Prelude.{ℕ, true, [], ◌∷◌}
 use Rattle.song_model.specs.declared.songs.Song.{Song}
 use Rattle.song_model.specs.Silence.{empty_song}
+use Rattle.song_model.specs.declared.instruments.Instrument.{Instrument}
 use Rattle.play_model.specs.WorkedSongs.{row, sides, plucked, one_note, with_rows, with_instrument}
 use Rattle.song_facts.specs.declared.facts.Fact.TheVariants.{RowTone, RowSlide, RowOnce, FirstMask, Legato, NoHardRestart}
 use Rattle.song_facts.specs.declared.facts.Fact.TheVariants.{WaveDelay, GateNote, NoteVibrato, VibratoDelay, NotePulse, NoteFilter}
 use Rattle.song_facts.specs.declared.facts.Fact.TheVariants.{VoiceTempo, CommonTempo, FunkTurns, FunkChoice}
+use Rattle.song_facts.specs.declared.facts.Fact.TheVariants.{OwnTimer, OwnWave}
 use Rattle.song_facts.specs.Facts.{IsTone, IsSlide, IsOnce, IsGateNote, IsMask, IsLegato, KeepsEnvelope, IsDelay}
-use Rattle.song_facts.specs.Facts.{HasVibrato, HasVibratoDelay, HasPulse, HasFilter}
+use Rattle.song_facts.specs.Facts.{HasVibrato, HasVibratoDelay, HasPulse, HasFilter, DifferInTimer, DifferInWave}
 use Rattle.song_facts.specs.Facts.{IsVoiceTempo, IsCommonTempo, IsFunkTurns, IsFunkChoice}
 use Rattle.song_facts.specs.Facts.{HasFact, AreFacts, AddsNoFact, no_facts}
 
@@ -59,6 +61,10 @@ pub record InstrumentsAreTold : Type 0 where
   pub no_pulse : ¬ HasPulse (record plucked { pulse = 0; filter = 1 })
   pub filter : HasFilter (record plucked { pulse = 0; filter = 1 })
   pub no_filter : ¬ HasFilter (record plucked { pulse = 1; filter = 0 })
+  pub timers : DifferInTimer (record plucked { gate_timer = 2 }) (record plucked { gate_timer = 3 })
+  pub same_timer : ¬ DifferInTimer (record plucked { gate_timer = 0x02 }) (record plucked { gate_timer = 0xC2 })
+  pub waves : DifferInWave (record plucked { first_wave = 9 }) (record plucked { first_wave = 8 })
+  pub same_wave : ¬ DifferInWave (record plucked { gate_timer = 2 }) (record plucked { gate_timer = 3 })
 
 -- the song whose first pattern is a row with this note and command
 abbrev pub song_of : ℕ → ℕ → Song
@@ -71,6 +77,10 @@ tempo_of param = with_rows (row 0x90 1 0xF param ∷ []) one_note
 -- the song of one note with another first row of its wave table
 abbrev pub wave_of : ℕ → Song
 wave_of left = record one_note { wave = sides left 0 ∷ sides 0xFF 0 ∷ [] }
+
+-- a song of one note by instrument 2, with these two instruments
+abbrev pub two_of : Instrument → Instrument → Song
+two_of one other = record (with_rows (row 0x90 2 0 0 ∷ []) one_note) { instruments = one ∷ other ∷ [] }
 
 -- A song has a fact where something that it uses is such. A pattern that no orderlist names, an instrument that no row
 -- names and a row of the wave table that no program comes to give it none.
@@ -91,9 +101,13 @@ pub record SongsAreTold : Type 0 where
   pub common_tempo : HasFact (tempo_of 6) CommonTempo
   pub turns : HasFact (tempo_of 0) FunkTurns
   pub choice : HasFact (song_of 0x90 0xE) FunkChoice
+  pub timers : HasFact (two_of plucked (record plucked { gate_timer = 3 })) OwnTimer
+  pub waves : HasFact (two_of plucked (record plucked { first_wave = 0x41 })) OwnWave
   pub not_played : ¬ HasFact (record empty_song { patterns = (row 0xBE 0 3 0 ∷ []) ∷ [] }) GateNote
   pub not_named : ¬ HasFact (record empty_song { instruments = plucked ∷ record plucked { first_wave = 0 } ∷ [] }) FirstMask
   pub not_reached : ¬ HasFact (record empty_song { wave = sides 0x0F 0 ∷ [] }) WaveDelay
+  pub timer_not_named : ¬ HasFact (record empty_song { instruments = plucked ∷ record plucked { gate_timer = 3 } ∷ [] }) OwnTimer
+  pub wave_not_named : ¬ HasFact (record empty_song { instruments = plucked ∷ record plucked { first_wave = 0 } ∷ [] }) OwnWave
 
 -- A song that uses nothing begins with an instrument that isn't stored, whose first waveform is 0: that one fact is its
 -- own, and it has neither none, nor another, nor one more. A song adds a fact to another where that hasn't it.

@@ -40,12 +40,17 @@ pub enum Fact {
     FunkTurns,
     /// A row has command `$E`, from which they do so, too, with two tempos of the speed table.
     FunkChoice,
+    /// Two instruments differ in the low six bits of their gateoff timers: how many frames before its tick 0 a row is
+    /// fetched.
+    OwnTimer,
+    /// Two instruments differ in their first waveforms.
+    OwnWave,
 }
 
 impl Fact {
-    ghost use Rattle.song_facts.specs.Facts.{number_of, IsOfRow, IsOfInstrument, IsOfWaveRow};
+    ghost use Rattle.song_facts.specs.Facts.{number_of, IsOfRow, IsOfInstrument, IsOfPair, IsOfWaveRow};
 
-    /// The fact's number, 0 to 15.
+    /// The fact's number, 0 to 17.
     pub fn number(self) -> u8
         ensures { result ≡ number_of self }
     {
@@ -82,6 +87,17 @@ impl Fact {
             Fact::VibratoDelay => instrument.vibrato_delay != 0,
             Fact::NotePulse => instrument.pulse != 0,
             Fact::NoteFilter => instrument.filter != 0,
+            _ => false,
+        }
+    }
+
+    /// Whether two instruments give a song the fact, by what they differ in.
+    pub fn is_of_pair(self, one: &Instrument, other: &Instrument) -> bool
+        ensures { IsTrue result ↔ IsOfPair self one.now other.now }
+    {
+        match self {
+            Fact::OwnTimer => one.gate_timer % 64 != other.gate_timer % 64,
+            Fact::OwnWave => one.first_wave != other.first_wave,
             _ => false,
         }
     }
@@ -129,6 +145,10 @@ pub struct Facts {
     pub funk_turns: bool,
     /// [`Fact::FunkChoice`].
     pub funk_choice: bool,
+    /// [`Fact::OwnTimer`].
+    pub own_timer: bool,
+    /// [`Fact::OwnWave`].
+    pub own_wave: bool,
 }
 
 impl Facts {
@@ -155,6 +175,8 @@ impl Facts {
             Fact::CommonTempo => self.common_tempo,
             Fact::FunkTurns => self.funk_turns,
             Fact::FunkChoice => self.funk_choice,
+            Fact::OwnTimer => self.own_timer,
+            Fact::OwnWave => self.own_wave,
         }
     }
 }

@@ -1,5 +1,5 @@
 -- A song under new numbers has no fact that the song that it was made of hasn't.
-use Rattle.std.proofs.Common.{◌≡◌, ◌≢◌, ℕ, ◌<◌, ◌≤◌, ◌⊎◌, sym, ◌∙◌, ap, subst}
+use Rattle.std.proofs.Common.{◌≡◌, ◌≢◌, ℕ, ◌%◌, ◌<◌, ◌≤◌, ◌⊎◌, refl, sym, ◌∙◌, ap, subst}
 use Rattle.std.specs.Prelude.{bit_and}
 use Rattle.song_model.specs.declared.rows.Row.{Row}
 use Rattle.song_model.specs.declared.instruments.Instrument.{Instrument}
@@ -9,13 +9,15 @@ use Rattle.song_model.specs.declared.tables.TableName.TheVariants.{Wave, Pulse, 
 use Rattle.song_model.specs.declared.songs.Song.{Song}
 use Rattle.song_model.specs.LookUp.{table_row, instrument_at}
 use Rattle.song_model.specs.Pointers.{instrument_pointer, command_table}
+use Rattle.play_model.specs.Used.{IsUsedInstrument}
 use Rattle.same_frames.specs.Maps.{Maps, moved_row, moved_pointer, IsRowFor, IsInstrumentFor}
 use Rattle.song_facts.specs.declared.facts.Fact.TheVariants.{RowTone, RowSlide, RowOnce, FirstMask, Legato, NoHardRestart}
 use Rattle.song_facts.specs.declared.facts.Fact.TheVariants.{WaveDelay, GateNote, NoteVibrato, VibratoDelay, NotePulse, NoteFilter}
 use Rattle.song_facts.specs.declared.facts.Fact.TheVariants.{VoiceTempo, CommonTempo, FunkTurns, FunkChoice}
+use Rattle.song_facts.specs.declared.facts.Fact.TheVariants.{OwnTimer, OwnWave}
 use Rattle.song_facts.specs.Facts.{IsTone, IsSlide, IsOnce, IsGateNote, IsMask, IsLegato, KeepsEnvelope}
-use Rattle.song_facts.specs.Facts.{HasVibratoDelay, IsVoiceTempo, IsCommonTempo, IsFunkTurns, IsFunkChoice}
-use Rattle.song_facts.specs.Facts.{HasSuchRow, HasSuchInstrument, HasSuchWaveRow, AddsNoFact}
+use Rattle.song_facts.specs.Facts.{HasVibratoDelay, timer_of, IsVoiceTempo, IsCommonTempo, IsFunkTurns, IsFunkChoice}
+use Rattle.song_facts.specs.Facts.{HasSuchRow, HasSuchInstrument, HasSuchPair, HasSuchWaveRow, AddsNoFact}
 use Rattle.same_frames.proofs.Laws.{old_some}
 use Rattle.song_pack.proofs.UsedParts.{IsMoved, under, used_row_from, instrument_from, pointer_moved, reached_from}
 
@@ -89,6 +91,30 @@ module _ (maps : Maps) where
               (m.agrees.instruments.stands_for from.old from.is_such)) has.is_such;
         }
 
+    -- two used instruments differ in a number that each has from the one that it stands for
+    pair_covered : (number : Instrument → ℕ) → ((n : ℕ) → InstrumentsKeep (λ i. number i ≡ n)) →
+        HasSuchPair other (λ one two. number one ≢ number two) → HasSuchPair song (λ one two. number one ≢ number two)
+    unfolding InstrumentsKeep
+    pair_covered number keeps has =
+        let one = instrument_from maps song other m has.one has.one_used in
+        let two = instrument_from maps song other m has.other has.other_used in
+        record {
+          one = one.old;
+          other = two.old;
+          one_used = one.is_such;
+          other_used = two.is_such;
+          differ = λ e.
+              has.differ (sym (same one.old one.is_such has.one one.new)
+              ∙ e ∙ same two.old two.is_such has.other two.new);
+        }
+      where
+        same : (i : ℕ) → IsUsedInstrument song i → (n : ℕ) → maps.instrument i ≡ n →
+            number (instrument_at song i) ≡ number (instrument_at other n)
+        same i used n is =
+            keeps (number (instrument_at other n)) (instrument_at song i) (instrument_at other n)
+            (subst (λ (k : ℕ). IsInstrumentFor maps (instrument_at song i) (instrument_at other k)) is
+            (m.agrees.instruments.stands_for i used)) refl
+
     -- a used instrument points into a table
     pointer_covered : (name : TableName) → HasSuchInstrument other (λ i. instrument_pointer name i ≢ 0) →
         HasSuchInstrument song (λ i. instrument_pointer name i ≢ 0)
@@ -139,3 +165,5 @@ module _ (maps : Maps) where
     covered CommonTempo has = row_covered IsCommonTempo (tempo_keeps (λ d. (3 ≤ d) × (d < 0x80))) has
     covered FunkTurns has = row_covered IsFunkTurns (tempo_keeps (λ d. d < 2)) has
     covered FunkChoice has = row_covered IsFunkChoice (command_keeps (λ c. c ≡ 0xE)) has
+    covered OwnTimer has = pair_covered timer_of (λ n. gate_timer_keeps (λ t. t % 64 ≡ n)) has
+    covered OwnWave has = pair_covered (λ i. i.first_wave) (λ n. first_wave_keeps (λ w. w ≡ n)) has

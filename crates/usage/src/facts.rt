@@ -4,9 +4,9 @@ ghost use Rattle.std.specs.Prelude.{◌≤◌, ◌<◌, ◌↔◌, IsTrue};
 ghost use Rattle.song_model.specs.declared.tables.TableName.TheVariants.{Wave};
 ghost use Rattle.play_model.specs.Used.{IsUsedInstrument};
 ghost use Rattle.play_model.specs.Reached.{IsReached};
-ghost use Rattle.song_facts.specs.Facts.{IsTone, IsSlide, IsOnce, IsGateNote, IsDelay, IsOfInstrument};
+ghost use Rattle.song_facts.specs.Facts.{IsTone, IsSlide, IsOnce, IsGateNote, IsDelay, IsOfInstrument, IsOfPair};
 ghost use Rattle.song_facts.specs.Facts.{IsVoiceTempo, IsCommonTempo, IsFunkTurns, IsFunkChoice};
-ghost use Rattle.song_facts.specs.Facts.{HasSuchRow, HasSuchInstrument, HasSuchWaveRow, AreFacts};
+ghost use Rattle.song_facts.specs.Facts.{HasSuchRow, HasSuchInstrument, HasSuchPair, HasSuchWaveRow, AreFacts};
 ghost use Rattle.usage.specs.Marks.{AreMarks};
 ghost use Rattle.usage.specs.Found.{IsFoundOf};
 
@@ -23,6 +23,21 @@ fn has_instrument(song: &Song, used: &[bool; 64], fact: Fact) -> bool
 {
     for instrument in 0..64u8 {
         if used[usize::from(instrument)] && fact.is_of_instrument(&song.instrument(instrument)) {
+            return true;
+        }
+    }
+    false
+}
+
+/// Whether two used instruments give the song the fact, by what they differ in. Instrument 1 is always used, and where
+/// two differ, one of them differs from it.
+fn has_pair(song: &Song, used: &[bool; 64], fact: Fact) -> bool
+    requires { AreMarks (IsUsedInstrument song.now) used.now }
+    ensures { IsTrue result ↔ HasSuchPair song.now (IsOfPair fact) }
+{
+    let first = song.instrument(1);
+    for instrument in 0..64u8 {
+        if used[usize::from(instrument)] && fact.is_of_pair(&first, &song.instrument(instrument)) {
             return true;
         }
     }
@@ -159,6 +174,8 @@ impl Found {
             common_tempo: self.has_common_tempo(song),
             funk_turns: self.has_funk_turns(song),
             funk_choice: self.has_funk_choice(song),
+            own_timer: has_pair(song, used, Fact::OwnTimer),
+            own_wave: has_pair(song, used, Fact::OwnWave),
         }
     }
 }
