@@ -88,12 +88,12 @@ module _ (song : Song) (order : Order) (play : CanBePlayed song) (is : IsPlayedO
   voice_keeps channel o s safe q =
       (after_tick_ready o (tick_step channel (look_ups_of song) s) (record {
         safe = rules.tick channel s safe;
-        notes = tick_keeps song channel s safe.voice.waiting q;
+        notes = tick_keeps song channel s safe.voice.instrument safe.voice.waiting q;
       })).notes
 
   voice_rules : VoiceRulesKeepNotes song order
   voice_rules = record {
-    tick = λ channel s safe q. tick_keeps song channel s safe.waiting q;
+    tick = λ channel s safe q. tick_keeps song channel s safe.instrument safe.waiting q;
     wave = λ s safe q. wave_keeps song s safe.wave q;
     effect = λ v safe q. effect_keeps song (look_ups_of song) v safe.running q;
     pulse = λ v q. pulse_keeps song (look_ups_of song) v q;
@@ -206,6 +206,7 @@ voice_starts song = record {
   note = silent refl refl (λ e. omega (arith, e));
   new_note = λ some. absurd (some refl);
   last = inl refl;
+  timer = inl (refl, refl);
 }
 
 pub plays_its_notes_lem : PlayableSongsPlayTheirNotes

@@ -1,6 +1,6 @@
--- What a voice keeps of notes and numbers, and what of it may change beside them.
+-- What a voice keeps of notes, numbers and timers, and what of it may change beside them.
 use Rattle.std.specs.Prelude.{◌==◌}
-use Rattle.std.proofs.Common.{◌≡◌, ◌≢◌, ℕ, ◌%◌, refl, inr}
+use Rattle.std.proofs.Common.{◌≡◌, ◌≢◌, ◌⊎◌, ℕ, ◌%◌, refl, inr}
 use Rattle.std.proofs.lemmas.Bool.{cond_both}
 use Rattle.song_model.specs.declared.songs.Song.{Song}
 use Rattle.play_model.specs.LookUps.{LookUps}
@@ -11,7 +11,7 @@ use Rattle.play_model.specs.Helpers.{porta_up, porta_down, at_target, towards, t
 use Rattle.play_model.specs.Features.{HasRow, IsAny}
 use Rattle.play_model.specs.Safe.{IsSafeWaiting, none, of_row}
 use Rattle.asked_numbers.specs.Numbers.{IsPlayedNote, IsSoundingNote, SlidesToNote, of_slide, IsLastNumber}
-use Rattle.kept_notes.specs.Voices.{IsKeptNote, sounding, silent, KeepsNotes}
+use Rattle.kept_notes.specs.Voices.{IsKeptNote, sounding, silent, IsUsedTimer, KeepsNotes}
 
 -- ---- the note
 
@@ -40,12 +40,13 @@ pub record Sounds (song : Song) (v : Voice) : Type 0 where
   pub note : IsSoundingNote song v.note
   pub new_note : v.new_note ≢ 0 → IsPlayedNote song (byte_minus v.new_note 0x60)
   pub last : IsLastNumber song v.last_note
+  pub timer : ((v.tick ≡ 1) × (v.gate_timer ≡ 0)) ⊎ IsUsedTimer song v.gate_timer
 
 pub sounds : (song : Song) (v : Voice) → KeepsNotes song v → IsSoundingNote song v.note → Sounds song v
-sounds song v q h = record { note = h; new_note = q.new_note; last = q.last }
+sounds song v q h = record { note = h; new_note = q.new_note; last = q.last; timer = q.timer }
 
 pub keeps : (song : Song) (v : Voice) → Sounds song v → KeepsNotes song v
-keeps song v q = record { note = sounding q.note; new_note = q.new_note; last = q.last }
+keeps song v q = record { note = sounding q.note; new_note = q.new_note; last = q.last; timer = q.timer }
 
 -- what is kept whatever else of a voice's sound changes
 pub record IsOfNotes (IsSuch : Voice → Type 0) : Type 0 where

@@ -7,6 +7,8 @@ pub mod Keeping
 pub mod Ticks
 pub mod Waves
 pub mod Rows
+-- The timer at a fetch.
+pub mod Timers
 -- What is looked up.
 pub mod Asked
 -- Steps of voices, frames and starts.

@@ -83,7 +83,7 @@ shut_keeps song timer v q =
 
 new_note_keeps : (song : Song) (v : Voice) (note : ℕ) → IsPlayedNote song (byte_minus note 0x60) →
     KeepsNotes song v → KeepsNotes song (record v { new_note = note })
-new_note_keeps song v note h q = record { note = q.note; new_note = λ some. h; last = q.last }
+new_note_keeps song v note h q = record { note = q.note; new_note = λ some. h; last = q.last; timer = q.timer }
 
 waits_keeps : (song : Song) (look : LookUps) (note : ℕ) (transpose : ℤ) (v : Voice) →
     (is_note note ≡ true → IsPlayedNote song (byte_minus (transposed note transpose) 0x60)) → KeepsNotes song v →

@@ -1,6 +1,6 @@
 -- The tick step keeps a voice's notes.
-use Rattle.std.specs.Prelude.{nat_le, ◌==◌}
-use Rattle.std.proofs.Common.{◌≡◌, ◌≢◌, ℕ, false, refl, inl, inr, arith}
+use Rattle.std.specs.Prelude.{nat_le, nat_eq, ◌==◌}
+use Rattle.std.proofs.Common.{◌≡◌, ◌≢◌, ℕ, ◌%◌, false, refl, inl, inr, arith}
 use Rattle.std.proofs.lemmas.Bool.{cond_both, eqb-true, eqb-false, cases_eq}
 use Rattle.song_model.specs.declared.instruments.Instrument.{Instrument}
 use Rattle.song_model.specs.declared.songs.Song.{Song}
@@ -11,24 +11,38 @@ use Rattle.play_model.specs.State.{Voice, Playing}
 use Rattle.play_model.specs.TickStep.{Ticked, tempo_of, reloaded, between_rows, note_taken, first_wave_set}
 use Rattle.play_model.specs.TickStep.{programs_begun, taken, note_started, row_command, note_ended, gate_timer_set}
 use Rattle.play_model.specs.TickStep.{at_row, tick_step}
+use Rattle.play_model.specs.Used.{IsUsedInstrument}
 use Rattle.play_model.specs.Features.{HasRow, IsAny}
 use Rattle.play_model.specs.Safe.{IsSafeWaiting}
 use Rattle.asked_numbers.specs.Numbers.{of_pattern, of_start, IsSoundingNote}
-use Rattle.kept_notes.specs.Voices.{IsKeptNote, sounding, silent, KeepsNotes}
+use Rattle.kept_notes.specs.Voices.{IsKeptNote, sounding, silent, IsUsedTimer, KeepsNotes}
 use Rattle.kept_notes.proofs.Keeping.{row_waits, Sounds, keeps, kept_of_notes, sounds_of_notes, command_keeps}
+
+-- ---- the tick and the timer
+
+-- any tick, with a timer of the song
+timed_keeps : (song : Song) (v : Voice) (tick timer : ℕ) → IsUsedTimer song timer → KeepsNotes song v →
+    KeepsNotes song (record v { tick = tick; gate_timer = timer })
+timed_keeps song v tick timer used q = record { note = q.note; new_note = q.new_note; last = q.last; timer = inr used }
+
+-- where no row is due, a voice has a timer of the song
+pub timer_used : (song : Song) (v : Voice) → nat_eq (byte_minus v.tick 1) 0 ≡ false → KeepsNotes song v →
+    IsUsedTimer song v.gate_timer
+timer_used song v later q = elim q.timer [
+  | inl before ↦ absurd (let passed = eqb-false (byte_minus v.tick 1) 0 later in passed (rw before.0 refl))
+  | inr used ↦ used
+]
 
 -- ---- between rows
 
-tick_keeps_field : (song : Song) (v : Voice) (n : ℕ) → KeepsNotes song v → KeepsNotes song (record v { tick = n })
-tick_keeps_field song v n q = assumption q
-
-between_keeps : (song : Song) (channel : ℕ) (s : Playing) → KeepsNotes song s.voice →
-    KeepsNotes song (between_rows channel s).voice
+between_keeps : (song : Song) (channel : ℕ) (s : Playing) → IsUsedTimer song s.voice.gate_timer →
+    KeepsNotes song s.voice → KeepsNotes song (between_rows channel s).voice
 unfolding between_rows
-between_keeps song channel s q =
+between_keeps song channel s used q =
     cond_both (nat_le 0x80 s.voice.tick) (reloaded channel (tempo_of channel s.common) s) s such
-    (λ h. cond_both (nat_le 2 (tempo_of channel s.common)) _ _ such (λ z. tick_keeps_field song s.voice _ q)
-    (λ z. tick_keeps_field song s.voice _ q))
+    (λ h. cond_both (nat_le 2 (tempo_of channel s.common)) _ _ such
+    (λ z. timed_keeps song s.voice _ s.voice.gate_timer used q)
+    (λ z. timed_keeps song s.voice _ s.voice.gate_timer used q))
     (λ h. q)
   where
     such : Playing → Type 0
@@ -122,33 +136,33 @@ row_command_keeps song channel look i c d s w q =
 
 -- ---- the whole step
 
-timer_keeps : (song : Song) (i : Instrument) (s : Playing) → KeepsNotes song s.voice →
-    KeepsNotes song (gate_timer_set i s).voice
-timer_keeps song i s q = assumption q
-
 ended_keeps : (song : Song) (s : Playing) → KeepsNotes song s.voice → KeepsNotes song (note_ended s).playing.voice
-ended_keeps song s q = record { note = q.note; new_note = λ some. absurd (some refl); last = q.last }
+ended_keeps song s q =
+    record { note = q.note; new_note = λ some. absurd (some refl); last = q.last; timer = q.timer }
 
 at_row_keeps : (song : Song) (channel : ℕ) (look : LookUps) (i : Instrument) (s : Playing) →
-    IsSafeWaiting song s.voice.new_command s.voice.new_param → KeepsNotes song s.voice →
+    IsSafeWaiting song s.voice.new_command s.voice.new_param → KeepsNotes song (gate_timer_set i s).voice →
     KeepsNotes song (at_row channel look i s).playing.voice
 unfolding at_row
 at_row_keeps song channel look i s w q =
     let started = note_started i (gate_timer_set i s) in
     ended_keeps song (row_command channel look i s.voice.new_command s.voice.new_param started)
     (row_command_keeps song channel look i s.voice.new_command s.voice.new_param started w
-    (started_keeps song i (gate_timer_set i s) (timer_keeps song i s q)))
+    (started_keeps song i (gate_timer_set i s) q))
 
-pub tick_keeps : (song : Song) (channel : ℕ) (s : Playing) →
+pub tick_keeps : (song : Song) (channel : ℕ) (s : Playing) → IsUsedInstrument song s.voice.instrument →
     IsSafeWaiting song s.voice.new_command s.voice.new_param → KeepsNotes song s.voice →
     KeepsNotes song (tick_step channel (look_ups_of song) s).playing.voice
 unfolding tick_step
-tick_keeps song channel s w q =
-    let next = record s { voice = record s.voice { tick = byte_minus s.voice.tick 1 } } in
-    let h = tick_keeps_field song s.voice (byte_minus s.voice.tick 1) q in
+tick_keeps song channel s used w q =
+    let tick = byte_minus s.voice.tick 1 in
+    let next = record s { voice = record s.voice { tick = tick } } in
     let i = instrument_at song s.voice.instrument in
-    cond_both (byte_minus s.voice.tick 1 == 0) (at_row channel (look_ups_of song) i next)
+    cond_both (tick == 0) (at_row channel (look_ups_of song) i next)
     (record { playing = between_rows channel next; started = false })
     (λ (t : Ticked). KeepsNotes song t.playing.voice)
-    (λ z. at_row_keeps song channel (look_ups_of song) i next w h)
-    (λ z. between_keeps song channel next h)
+    (λ z. at_row_keeps song channel (look_ups_of song) i next w
+    (timed_keeps song s.voice tick (i.gate_timer % 64)
+    (record { instrument = s.voice.instrument; used = used; is = refl }) q))
+    (λ z. let timer = timer_used song s.voice z q in
+    between_keeps song channel next timer (timed_keeps song s.voice tick s.voice.gate_timer timer q))

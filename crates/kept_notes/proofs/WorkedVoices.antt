@@ -1,15 +1,21 @@
 -- What a voice of a small song keeps and looks up, worked out by hand.
-use Rattle.std.proofs.Common.{◌≡◌, ◌≢◌, ℕ, List, [], ◌∷◌, All, refl, sym, inl, inr, arith}
+use Rattle.std.proofs.Common.{◌≡◌, ◌≢◌, ◌≤◌, ℕ, ◌%◌, List, [], ◌∷◌, All, refl, sym, inl, inr, arith}
 use Rattle.std.proofs.lemmas.List.Elements.{All-nil, All-cons, All-contains}
+use Rattle.base.proofs.Laws.{All-get_or_any}
+use Rattle.song_model.specs.declared.rows.Row.{Row}
+use Rattle.song_model.specs.declared.instruments.Instrument.{Instrument}
 use Rattle.song_model.specs.declared.songs.Song.{Song}
-use Rattle.song_model.specs.LookUp.{instrument_at, table_row}
+use Rattle.song_model.specs.LookUp.{instrument_at, table_row, pattern_at}
+use Rattle.song_model.specs.Silence.{rest_row}
 use Rattle.play_model.specs.Freq.{freq}
-use Rattle.play_model.specs.WorkedSongs.{one_note}
+use Rattle.play_model.specs.Used.{IsUsedInstrument}
+use Rattle.play_model.specs.WorkedSongs.{row, rests, plucked, one_note}
 use Rattle.asked_numbers.specs.Numbers.{IsPlayedNote, of_pattern, of_start, IsSoundingNote}
 use Rattle.asked_numbers.specs.Numbers.{IsLastNumber, IsAskedNumber, sounded, half_tone_from, half_tone_to}
-use Rattle.kept_notes.specs.Voices.{IsKeptNote, sounding, silent}
+use Rattle.kept_notes.specs.Voices.{IsKeptNote, sounding, silent, IsUsedTimer, KeepsNotes}
 use Rattle.asked_numbers.specs.WorkedNumbers.{AsksFor, with_wave, with_speed}
-use Rattle.kept_notes.specs.WorkedVoices.{KeptNotesAreWorked, KeptStatesAreWorked, LookUpsAreWorked, VoicesAreWorked}
+use Rattle.kept_notes.specs.WorkedVoices.{timed, KeptNotesAreWorked, KeptTimersAreWorked}
+use Rattle.kept_notes.specs.WorkedVoices.{KeptStatesAreWorked, LookUpsAreWorked, VoicesAreWorked}
 use Rattle.kept_notes.proofs.Frames.{voice_starts}
 use Rattle.asked_numbers.proofs.Laws.{its_note_sounds, its_note_alone, its_number_sounds, its_number_alone}
 use Rattle.asked_numbers.proofs.Laws.{speed_depends, numbers_are_worked}
@@ -33,6 +39,7 @@ kept = record {
     note = sounding its_note_sounds;
     new_note = λ some. of_its_pattern 48 (λ e. omega (arith, e)) its_note_sounds;
     last = inr its_number_sounds;
+    timer = inl (refl, refl);
   };
   note = λ q. not_kept 49 0 0 (λ e. omega (arith, e)) (λ e stopped. absurd (omega (arith, e))) q.note;
   program = λ q. not_kept 0 1 0 (λ e. omega (arith, e)) (λ e stopped. absurd (omega (arith, stopped))) q.note;
@@ -45,6 +52,74 @@ kept = record {
     no_last : ¬ IsLastNumber one_note 49
     no_last (inl none) = omega (arith, none)
     no_last (inr h) = (let no = its_number_alone 49 h in omega (arith, no))
+
+-- ---- the timers of songs whose rows name the first instrument alone
+
+-- the song of one note with these instruments
+abbrev with_instruments : List Instrument → Song
+with_instruments instruments = record one_note { instruments = instruments }
+
+abbrev NamesFirst : Row → Type 0
+NamesFirst row = row.instrument ≤ 1
+
+rows_name_first : All (All NamesFirst) one_note.patterns
+rows_name_first =
+    All-cons (All NamesFirst) (row 0x90 1 0 0 ∷ row 0xBE 0 0 0 ∷ []) (rests 1 ∷ [])
+    (All-cons NamesFirst (row 0x90 1 0 0) (row 0xBE 0 0 0 ∷ []) (omega arith)
+    (All-cons NamesFirst (row 0xBE 0 0 0) [] (omega arith) (All-nil NamesFirst)))
+    (All-cons (All NamesFirst) (rests 1) []
+    (All-cons NamesFirst rest_row [] (omega arith) (All-nil NamesFirst)) (All-nil (All NamesFirst)))
+
+only_first : (instruments : List Instrument) (i : ℕ) → IsUsedInstrument (with_instruments instruments) i → i ≡ 1
+unfolding pattern_at
+only_first instruments i (inl first) = first
+only_first instruments i (inr named) =
+    let rows = pattern_at one_note named.used.pattern in
+    let most : NamesFirst named.row =
+    All-contains NamesFirst rows named.row
+    (All-get_or_any (All NamesFirst) one_note.patterns named.used.pattern [] (All-nil NamesFirst) rows_name_first)
+    named.used.has in
+    let names = named.names in
+    let some = named.some in omega (arith, most, names, some)
+
+timer_alone : (first : Instrument) (others : List Instrument) (timer : ℕ) →
+    IsUsedTimer (with_instruments (first ∷ others)) timer → timer ≡ first.gate_timer % 64
+unfolding instrument_at
+timer_alone first others timer is = rw (only_first (first ∷ others) is.instrument is.used) at is.is
+
+no_timer : (first : Instrument) (others : List Instrument) (tick timer : ℕ) → (tick ≡ 1 → timer ≢ 0) →
+    timer ≢ first.gate_timer % 64 → ¬ KeepsNotes (with_instruments (first ∷ others)) (timed tick timer)
+no_timer first others tick timer later differs q = elim q.timer [
+  | inl before ↦ later before.0 before.1
+  | inr used ↦ differs (timer_alone first others timer used)
+]
+
+its_timer : (first : Instrument) (tick : ℕ) →
+    KeepsNotes (with_instruments (first ∷ [])) (timed tick (first.gate_timer % 64))
+unfolding instrument_at
+its_timer first tick = record {
+  note = silent refl refl (λ e. omega (arith, e));
+  new_note = λ some. absurd (some refl);
+  last = inl refl;
+  timer = inr (record { instrument = 1; used = inl refl; is = refl });
+}
+
+timers : KeptTimersAreWorked
+timers = record {
+  its = its_timer plucked 2;
+  begins = kept.start;
+  before_row = no_timer plucked [] 1 3 (λ now e. omega (arith, e)) (λ e. omega (arith, e));
+  at_row = no_timer plucked [] 0 3 (λ now e. omega (arith, e)) (λ e. omega (arith, e));
+  behind_row = no_timer plucked [] 2 3 (λ now e. omega (arith, e)) (λ e. omega (arith, e));
+  zero = no_timer plucked [] 2 0 (λ now e. omega (arith, now)) (λ e. omega (arith, e));
+  low_bits = its_timer (record plucked { gate_timer = 0x42 }) 2;
+  all_bits =
+      no_timer (record plucked { gate_timer = 0x42 }) [] 2 0x42 (λ now e. omega (arith, e)) (λ e. omega (arith, e));
+  not_used =
+      no_timer plucked (record plucked { gate_timer = 3 } ∷ []) 2 3 (λ now e. omega (arith, e)) (λ e. omega (arith, e));
+}
+
+-- ---- states
 
 states : KeptStatesAreWorked
 states = record {
@@ -105,4 +180,4 @@ look_ups = record {
 }
 
 pub voices_are_worked : VoicesAreWorked
-voices_are_worked = record { kept = kept; states = states; look_ups = look_ups }
+voices_are_worked = record { kept = kept; timers = timers; states = states; look_ups = look_ups }

@@ -1,4 +1,4 @@
--- The voices of a playable song keep its notes, and look up only numbers that it asks for.
+-- The voices of a playable song keep its notes and timers, and look up only numbers that it asks for.
 use Rattle.std.specs.Prelude.{◌≡◌, ◌≢◌, ℕ, ◌+◌, ◌%◌, ◌<◌, false, length}
 use Rattle.song_model.specs.declared.orders.Order.{Order}
 use Rattle.song_model.specs.declared.features.Feature.TheVariants.{NoteDependent}
@@ -17,14 +17,15 @@ use Rattle.play_model.specs.WaveStep.{is_wave_command, wave_note, wave_step}
 use Rattle.play_model.specs.EffectStep.{effect_step}
 use Rattle.play_model.specs.PulseStep.{pulse_step}
 use Rattle.play_model.specs.FetchRow.{fetch_row}
-use Rattle.play_model.specs.Frame.{voice_step, filter_done, voice_done, subtune_at, frame_with, state_after_with}
+use Rattle.play_model.specs.Frame.{voice_step, filter_done, voice_done, effect_done, subtune_at, frame_with}
+use Rattle.play_model.specs.Frame.{state_after_with}
 use Rattle.play_model.specs.Used.{IsChannel, IsPlayedOrder}
 use Rattle.play_model.specs.Playable.{IsPlayable}
 use Rattle.play_model.specs.Features.{HasFeature}
 use Rattle.play_model.specs.Safe.{IsSafeVoice, IsSafe}
 use Rattle.safe_states.specs.SafeLaws.{IsSafePlaying}
 use Rattle.asked_numbers.specs.Numbers.{IsAskedNumber}
-use Rattle.kept_notes.specs.Voices.{KeepsNotes, KeepAllNotes}
+use Rattle.kept_notes.specs.Voices.{IsUsedTimer, KeepsNotes, KeepAllNotes}
 
 -- ---- look-ups
 
@@ -48,6 +49,17 @@ pub record LooksUpAsked (song : Song) (v : Voice) : Type 0 where
 abbrev pub VoicesLookUpAsked : Type 0
 VoicesLookUpAsked =
     (song : Song) (order : Order) (v : Voice) → IsSafeVoice song order v → KeepsNotes song v → LooksUpAsked song v
+
+-- ---- gateoff timers
+
+-- when a voice comes to its fetch, behind the tick, the wave and the effect step, its timer is one of the song
+abbrev pub TimersAreUsed : Type 0
+TimersAreUsed =
+    (song : Song) (order : Order) (channel : ℕ) (o : Options) (s : Playing) → IsSafeVoice song order s.voice →
+    KeepsNotes song s.voice →
+    IsUsedTimer song
+    (effect_done o (look_ups_of song) (wave_step (look_ups_of song)
+    (tick_step channel (look_ups_of song) s).playing)).voice.gate_timer
 
 -- ---- within a frame
 

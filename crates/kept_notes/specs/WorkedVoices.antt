@@ -1,6 +1,8 @@
 -- What a voice of a small song keeps and looks up, worked out by hand, and what it may not, each for one thing alone.
+use Rattle.std.specs.Prelude.{ℕ, [], ◌∷◌}
+use Rattle.song_model.specs.declared.songs.Song.{Song}
 use Rattle.play_model.specs.State.{Voice, FrameState, no_options, start_voice, start_state}
-use Rattle.play_model.specs.WorkedSongs.{one_note}
+use Rattle.play_model.specs.WorkedSongs.{plucked, one_note, with_gate_timer}
 use Rattle.kept_notes.specs.Voices.{KeepsNotes, KeepAllNotes}
 use Rattle.kept_notes.specs.NoteLaws.{LooksUpAsked}
 use Rattle.asked_numbers.specs.WorkedNumbers.{with_wave, with_speed}
@@ -19,6 +21,28 @@ pub record KeptNotesAreWorked : Type 0 where
   pub slide : ¬ KeepsNotes one_note (record start_voice { command = 3 })
   pub new_note : ¬ KeepsNotes one_note (record start_voice { new_note = 0x91 })
   pub last : ¬ KeepsNotes one_note (record start_voice { last_note = 49 })
+
+-- a voice without a note, at this tick and with this gateoff timer
+abbrev pub timed : ℕ → ℕ → Voice
+timed tick timer = record start_voice { tick = tick; gate_timer = timer }
+
+-- the song of one note with a second instrument, of timer 3, which no row names
+abbrev pub with_second : Song
+with_second = record one_note { instruments = plucked ∷ record plucked { gate_timer = 3 } ∷ [] }
+
+-- The only instrument of the song of one note has the timer 2. A voice that keeps the song's notes has this timer, or 0 a
+-- frame before a row, as it begins. It hasn't another one there, nor at a row or behind it, nor 0 then. Of an instrument's
+-- timer it has the six low bits alone, and that of an instrument that the song doesn't use it hasn't.
+pub record KeptTimersAreWorked : Type 0 where
+  pub its : KeepsNotes one_note (timed 2 2)
+  pub begins : KeepsNotes one_note (timed 1 0)
+  pub before_row : ¬ KeepsNotes one_note (timed 1 3)
+  pub at_row : ¬ KeepsNotes one_note (timed 0 3)
+  pub behind_row : ¬ KeepsNotes one_note (timed 2 3)
+  pub zero : ¬ KeepsNotes one_note (timed 2 0)
+  pub low_bits : KeepsNotes (with_gate_timer 0x42 one_note) (timed 2 2)
+  pub all_bits : ¬ KeepsNotes (with_gate_timer 0x42 one_note) (timed 2 0x42)
+  pub not_used : ¬ KeepsNotes with_second (timed 2 3)
 
 -- another note in one voice alone
 abbrev pub other : Voice
@@ -47,5 +71,6 @@ pub record LookUpsAreWorked : Type 0 where
 
 pub record VoicesAreWorked : Type 0 where
   pub kept : KeptNotesAreWorked
+  pub timers : KeptTimersAreWorked
   pub states : KeptStatesAreWorked
   pub look_ups : LookUpsAreWorked
