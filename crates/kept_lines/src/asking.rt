@@ -6,8 +6,8 @@ ghost use Rattle.kept_lines.specs.Asked.{is_in, asks_fact, asks, asked, asked_by
 use packed_form::PackedSong;
 use player_memory::conditions::{
     COMMON_TEMPO, FIRST_MASK, FUNK_CHOICE, FUNK_TURNS, GATE_NOTE, LEGATO, NO_HARD_RESTART,
-    NOTE_FILTER, NOTE_PULSE, NOTE_VIBRATO, ROW_COMMAND, ROW_ONCE, ROW_SLIDE, ROW_TONE,
-    VIBRATO_DELAY, VOICE_TEMPO, WAVE_DELAY,
+    NOTE_FILTER, NOTE_PULSE, NOTE_VIBRATO, OWN_TIMER, OWN_WAVE, ROW_COMMAND, ROW_ONCE, ROW_SLIDE,
+    ROW_TONE, VIBRATO_DELAY, VOICE_TEMPO, WAVE_DELAY,
 };
 use scope_lines::Conditions;
 use song_facts::Facts;
@@ -42,6 +42,8 @@ fn asks_fact(facts: &Facts, condition: u8) -> bool
         COMMON_TEMPO => facts.common_tempo,
         FUNK_TURNS => facts.funk_turns,
         FUNK_CHOICE => facts.funk_choice,
+        OWN_TIMER => facts.own_timer,
+        OWN_WAVE => facts.own_wave,
         _ => false,
     }
 }

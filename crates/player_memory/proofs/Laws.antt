@@ -10,8 +10,9 @@ pub use Rattle.player_memory.proofs.Standing.{have_same, are_same}
 pub use Rattle.player_memory.proofs.Starting.{beginnings_play}
 -- variables that stand one behind the other are apart
 pub use Rattle.player_memory.proofs.Pieces.{InOnePiece, in_one_piece, off_piece, list_behind}
--- only the nine fields of instruments are read, and those that aren't are bytes of the packed song
-pub use Rattle.player_memory.proofs.ReadFields.{read_below, unread_few, unread_within}
+-- only the nine fields of instruments are read, those that aren't are bytes of the packed song, and at most two bytes
+-- stand for all instruments
+pub use Rattle.player_memory.proofs.ReadFields.{read_below, unread_few, unread_within, shared_few}
 -- a layout like the one that is worked has a room, and places outside of it
 pub use Rattle.player_memory.proofs.WorkedRooms.{IsLaid, IsOpen, AreLaid, off_variables, room_in, uses_in, behind_slides}
 -- the entries of a pattern that is worked

@@ -1,5 +1,5 @@
 -- When each byte of a song's lists stands in a memory like the one that is worked, by a test that is computed.
-use Rattle.std.proofs.Common.{◌≡◌, ℕ, zero, suc, ◌+◌, ◌-◌, ◌<◌, ◌≤◌, ◌&&◌, Bool, true, List, []}
+use Rattle.std.proofs.Common.{◌≡◌, ℕ, zero, suc, ◌+◌, ◌-◌, ◌<◌, ◌≤◌, ◌&&◌, Bool, true, false, List, []}
 use Rattle.std.proofs.Common.{nat_eq, nat_le, nat_lt, slice_index_or, subst, arith}
 use Rattle.std.proofs.lemmas.Bool.{eqb-true, leb-true, ltb-true, and_parts, agree_below, agree_below_at}
 use Rattle.song_model.specs.declared.tables.TableRow.{TableRow}
@@ -9,7 +9,8 @@ use Rattle.scopes.specs.Desk.{Layout}
 use Rattle.player_memory.specs.Rooms.{IsElsewhere}
 use Rattle.player_memory.specs.Playing.{place_in}
 use Rattle.player_memory.specs.SongLists.{SongList, FrequencyLows, FrequencyHighs, Lefts, Rights, Periods, Instruments}
-use Rattle.player_memory.specs.SongLists.{OrderLows, OrderHighs, PatternLows, PatternHighs, OrderBytes, PatternBytes}
+use Rattle.player_memory.specs.SongLists.{OneTimer, OneWave, OrderLows, OrderHighs, PatternLows, PatternHighs}
+use Rattle.player_memory.specs.SongLists.{OrderBytes, PatternBytes}
 use Rattle.player_memory.specs.SongLists.{first_number, list_length, list_byte, list_label, IsSongList, HasNumber}
 use Rattle.player_memory.specs.SongLists.{slide_rows, ListsStand}
 use Rattle.player_memory.proofs.ReadFields.{read_below}
@@ -33,15 +34,15 @@ list_is_set layout packed at list =
 
 abbrev pub all_are_set : Layout → PackedSong → (ℕ → ℕ) → Bool
 all_are_set layout packed at =
-    agree_below (λ n. list_is_set layout packed at (list_of n)) (λ n. true) 32
+    agree_below (λ n. list_is_set layout packed at (list_of n)) (λ n. true) 33
 
 module _ (layout : Layout) (speeds : List TableRow) (at : ℕ → ℕ)
     (test : all_are_set layout (song_with speeds) at ≡ true) where
   abbrev packed : PackedSong
   packed = song_with speeds
 
-  at_number : (n : ℕ) → n < 32 → list_is_set layout packed at (list_of n) ≡ true
-  at_number n few = agree_below_at (λ k. list_is_set layout packed at (list_of k)) (λ k. true) 32 n test few
+  at_number : (n : ℕ) → n < 33 → list_is_set layout packed at (list_of n) ≡ true
+  at_number n few = agree_below_at (λ k. list_is_set layout packed at (list_of k)) (λ k. true) 33 n test few
 
   found : (list : SongList) → IsSongList layout packed list → list_is_set layout packed at list ≡ true
   found FrequencyLows is = at_number 0 (omega arith)
@@ -67,21 +68,23 @@ module _ (layout : Layout) (speeds : List TableRow) (at : ℕ → ℕ)
   found (Instruments (suc (suc (suc (suc (suc (suc (suc (suc (suc more)))))))))) is =
       let few = read_below packed (suc (suc (suc (suc (suc (suc (suc (suc (suc more))))))))) is in
       absurd (omega (arith, few))
-  found OrderLows is = at_number 20 (omega arith)
-  found OrderHighs is = at_number 21 (omega arith)
-  found PatternLows is = at_number 22 (omega arith)
-  found PatternHighs is = at_number 23 (omega arith)
-  found (OrderBytes zero zero) is = at_number 24 (omega arith)
-  found (OrderBytes zero (suc zero)) is = at_number 25 (omega arith)
-  found (OrderBytes zero (suc (suc zero))) is = at_number 26 (omega arith)
+  found OneTimer is = at_number 20 (omega arith)
+  found OneWave is = absurd (let on : true ≡ false = is in cc)
+  found OrderLows is = at_number 21 (omega arith)
+  found OrderHighs is = at_number 22 (omega arith)
+  found PatternLows is = at_number 23 (omega arith)
+  found PatternHighs is = at_number 24 (omega arith)
+  found (OrderBytes zero zero) is = at_number 25 (omega arith)
+  found (OrderBytes zero (suc zero)) is = at_number 26 (omega arith)
+  found (OrderBytes zero (suc (suc zero))) is = at_number 27 (omega arith)
   found (OrderBytes zero (suc (suc (suc more)))) is = absurd (let few = is.1 in omega (arith, few))
-  found (OrderBytes (suc zero) zero) is = at_number 27 (omega arith)
-  found (OrderBytes (suc zero) (suc zero)) is = at_number 28 (omega arith)
-  found (OrderBytes (suc zero) (suc (suc zero))) is = at_number 29 (omega arith)
+  found (OrderBytes (suc zero) zero) is = at_number 28 (omega arith)
+  found (OrderBytes (suc zero) (suc zero)) is = at_number 29 (omega arith)
+  found (OrderBytes (suc zero) (suc (suc zero))) is = at_number 30 (omega arith)
   found (OrderBytes (suc zero) (suc (suc (suc more)))) is = absurd (let few = is.1 in omega (arith, few))
   found (OrderBytes (suc (suc more)) channel) is = absurd (let few = is.0 in omega (arith, few))
-  found (PatternBytes zero) is = at_number 30 (omega arith)
-  found (PatternBytes (suc zero)) is = at_number 31 (omega arith)
+  found (PatternBytes zero) is = at_number 31 (omega arith)
+  found (PatternBytes (suc zero)) is = at_number 32 (omega arith)
   found (PatternBytes (suc (suc more))) is = absurd (omega (arith, is))
 
   byte_at : (list : SongList) (number : ℕ) → IsSongList layout packed list → HasNumber packed list number →

@@ -1,5 +1,5 @@
 -- Conditions of features and of facts, and layouts that keep the lines of facts or don't.
-use Rattle.std.proofs.Common.{◌≡◌, true, [], ◌∷◌, inl, refl, arith}
+use Rattle.std.proofs.Common.{◌≡◌, true, [], ◌∷◌, inl, inr, refl, arith}
 use Rattle.song_model.specs.LookUp.{pattern_at}
 use Rattle.play_model.specs.WorkedSongs.{row, one_note}
 use Rattle.scopes.specs.Desk.{Layout}
@@ -8,6 +8,7 @@ use Rattle.song_facts.specs.declared.facts.Fact.TheVariants.{NoHardRestart}
 use Rattle.song_facts.specs.declared.facts.Fact.TheVariants.{WaveDelay, GateNote, NoteVibrato, VibratoDelay, NotePulse}
 use Rattle.song_facts.specs.declared.facts.Fact.TheVariants.{NoteFilter}
 use Rattle.song_facts.specs.declared.facts.Fact.TheVariants.{VoiceTempo, CommonTempo, FunkTurns, FunkChoice}
+use Rattle.song_facts.specs.declared.facts.Fact.TheVariants.{OwnTimer, OwnWave}
 use Rattle.song_facts.specs.Facts.{HasFact, no_facts}
 use Rattle.player_memory.specs.declared.conditions.TheConstants.{GATE_NOTE}
 use Rattle.player_memory.specs.FactLines.{KeepsMarked, KeepsMarkedAlone}
@@ -59,6 +60,8 @@ conditions_are_facts VoiceTempo = refl
 conditions_are_facts CommonTempo = refl
 conditions_are_facts FunkTurns = refl
 conditions_are_facts FunkChoice = refl
+conditions_are_facts OwnTimer = refl
+conditions_are_facts OwnWave = refl
 
 none_kept : (layout : Layout) → KeepsMarked layout no_facts
 none_kept layout RowTone on = absurd cc
@@ -77,6 +80,8 @@ none_kept layout VoiceTempo on = absurd cc
 none_kept layout CommonTempo on = absurd cc
 none_kept layout FunkTurns on = absurd cc
 none_kept layout FunkChoice on = absurd cc
+none_kept layout OwnTimer on = absurd cc
+none_kept layout OwnWave on = absurd cc
 
 gate_kept : (layout : Layout) → layout.holds GATE_NOTE ≡ true →
     KeepsMarked layout (record no_facts { gate_note = true })
@@ -96,6 +101,8 @@ gate_kept layout holds VoiceTempo on = absurd cc
 gate_kept layout holds CommonTempo on = absurd cc
 gate_kept layout holds FunkTurns on = absurd cc
 gate_kept layout holds FunkChoice on = absurd cc
+gate_kept layout holds OwnTimer on = absurd cc
+gate_kept layout holds OwnWave on = absurd cc
 
 -- where at most the condition of a keyoff holds
 none_alone : (layout : Layout) → KeepsMarkedAlone (with_holding layout []) (record no_facts { gate_note = true })
@@ -115,6 +122,8 @@ none_alone layout VoiceTempo on = absurd cc
 none_alone layout CommonTempo on = absurd cc
 none_alone layout FunkTurns on = absurd cc
 none_alone layout FunkChoice on = absurd cc
+none_alone layout OwnTimer on = absurd cc
+none_alone layout OwnWave on = absurd cc
 
 gate_alone : (layout : Layout) →
     KeepsMarkedAlone (with_holding layout (GATE_NOTE ∷ [])) (record no_facts { gate_note = true })
@@ -134,6 +143,8 @@ gate_alone layout VoiceTempo on = absurd cc
 gate_alone layout CommonTempo on = absurd cc
 gate_alone layout FunkTurns on = absurd cc
 gate_alone layout FunkChoice on = absurd cc
+gate_alone layout OwnTimer on = absurd cc
+gate_alone layout OwnWave on = absurd cc
 
 -- the song of one note has a keyoff
 key_off : HasFact one_note GateNote
@@ -173,6 +184,12 @@ fact_lines_are_worked layout = record {
   filter_more = λ alone. (let on = alone NoteFilter refl in absurd cc);
   vibrato_more = λ alone. (let on = alone NoteVibrato refl in absurd cc);
   delay_more = λ alone. (let on = alone VibratoDelay refl in absurd cc);
+  timer_more = λ alone. (let on = alone OwnTimer refl in absurd cc);
+  wave_more = λ alone. (let on = alone OwnWave refl in absurd cc);
+  held_gate = λ on. inl refl;
+  held_envelope = λ on. inr refl;
+  not_held = λ on. absurd cc;
+  held_more = λ alone. elim (alone refl) [ inl gate ↦ absurd cc | inr envelope ↦ absurd cc ];
   song = λ keeps. (let on = keeps GateNote key_off in absurd cc);
   free = record {
     tone = λ on. absurd cc;

@@ -1,10 +1,12 @@
 -- The lists of a small packed song, computed.
-use Rattle.std.proofs.Common.{refl, arith}
+use Rattle.std.proofs.Common.{false, [], ◌∷◌, refl, arith}
 use Rattle.std.proofs.lemmas.Bool.{ltb-true}
 use Rattle.song_model.specs.LookUp.{table_row, instrument_at}
 use Rattle.play_model.specs.Freq.{freq}
 use Rattle.player_memory.specs.WorkedLists.{table_pieces, instrument_pieces, order_pieces, list_layout, worked_song}
-use Rattle.player_memory.specs.WorkedLists.{AreAsWorked, SongListsAreWorked}
+use Rattle.player_memory.specs.declared.labels.TheConstants.{ONE_WAVE}
+use Rattle.player_memory.specs.SongLists.{OneWave}
+use Rattle.player_memory.specs.WorkedLists.{piece, its_facts, with_facts, IsAsWorked, AreAsWorked, SongListsAreWorked}
 
 tables : AreAsWorked list_layout worked_song table_pieces
 unfolding freq table_row
@@ -17,6 +19,11 @@ instruments = assumption
 orders : AreAsWorked list_layout worked_song order_pieces
 orders = search ltb-true
 
+one_wave : IsAsWorked list_layout (with_facts (record its_facts { own_wave = false }))
+    (piece OneWave ONE_WAVE 0x1161 0 (0x09 ∷ []))
+unfolding instrument_at
+one_wave = assumption
+
 pub song_lists_are_worked : SongListsAreWorked
 song_lists_are_worked = record {
   read = record {
@@ -26,6 +33,10 @@ song_lists_are_worked = record {
     no_filter = refl;
     no_vibrato = refl;
     no_delay = refl;
+    one_wave = refl;
+    one_timer = refl;
+    own_timer = refl;
+    gate_kept = refl;
     in_front = refl;
     in_front_of_fewer = refl;
   };
@@ -38,6 +49,9 @@ song_lists_are_worked = record {
   no_channel = λ is. (let few = is.1 in omega (arith, few));
   no_pattern = λ few. omega (arith, few);
   no_pulses = λ e. absurd (cc);
+  no_one_wave = λ e. absurd (cc);
+  no_one_timer = λ e. absurd (cc);
+  one_wave = one_wave;
   no_periods = λ e. absurd (cc);
   speed_row_none = record { from = omega arith; to = omega arith };
   speed_row = record { from = omega arith; to = omega arith };

@@ -8,8 +8,9 @@ use Rattle.player_memory.specs.WorkedMemory.{times, own_rows, shared_rows, is_of
 use Rattle.play_model.specs.State.{start_common}
 use Rattle.player_memory.specs.declared.labels.TheConstants.{NEW_COMMAND, NEW_PARAM, COMMAND, PARAM, VIB_TIME, LAST_NOTE}
 use Rattle.player_memory.specs.declared.labels.TheConstants.{WAVE_TIME, PULSE_LOW, FILTER_TYPE, FILTER_CONTROL, CUTOFF}
-use Rattle.player_memory.specs.declared.labels.TheConstants.{VOLUME, FUNK_ONE, FUNK_TWO}
+use Rattle.player_memory.specs.declared.labels.TheConstants.{VOLUME, FUNK_ONE, FUNK_TWO, GATE_TIMER}
 use Rattle.player_memory.specs.declared.conditions.TheConstants.{ROW_COMMAND, EFFECTS, SWINGS, INSTRUMENT_VIBRATO}
+use Rattle.player_memory.specs.declared.conditions.TheConstants.{OWN_TIMER}
 use Rattle.player_memory.specs.declared.conditions.TheConstants.{NOTE_DEPENDENT, WAVE_DELAY, PULSE_TABLE, FILTER_USED}
 use Rattle.player_memory.specs.declared.conditions.TheConstants.{SET_VOLUME, FUNK_TEMPO}
 use Rattle.player_memory.specs.WorkedMemory.{unwavering, still_bytes, all_but, its_shared, VoiceRowsAreWorked}
@@ -91,6 +92,11 @@ voice_rows_are_worked = record {
     there = λ s. let e = s.1.1.1.1.1.1.1.1.1.1.1.1.1.1.1.1.1.1.1.0 refl in omega (arith, e);
     not_there =
         bytes_stand (all_but WAVE_DELAY) unwavering 5 (put still_bytes WAVE_TIME 1) refl;
+  };
+  gate_timer = record {
+    there = λ s. let e = s.1.0 refl in omega (arith, e);
+    not_there =
+        bytes_stand (all_but OWN_TIMER) unwavering 5 (put still_bytes GATE_TIMER 1) refl;
   };
   pulse_low = record {
     there = λ s. let e = s.1.1.1.1.1.1.1.1.1.1.1.1.1.1.1.1.1.1.1.1.1.1.0.0 refl in omega (arith, e);

@@ -1,6 +1,6 @@
 -- Which condition keeps the lines of each fact of a song, and when a layout keeps those of a song's facts. This is the
 -- project's own player.
-use Rattle.std.specs.Prelude.{◌≡◌, ℕ, true}
+use Rattle.std.specs.Prelude.{◌≡◌, ◌⊎◌, ℕ, true}
 use Rattle.song_model.specs.declared.songs.Song.{Song}
 use Rattle.song_facts.specs.declared.facts.Fact.{Fact}
 use Rattle.song_facts.specs.declared.facts.Fact.TheVariants.{RowTone, RowSlide, RowOnce, FirstMask, Legato}
@@ -8,6 +8,7 @@ use Rattle.song_facts.specs.declared.facts.Fact.TheVariants.{NoHardRestart}
 use Rattle.song_facts.specs.declared.facts.Fact.TheVariants.{WaveDelay, GateNote, NoteVibrato, VibratoDelay, NotePulse}
 use Rattle.song_facts.specs.declared.facts.Fact.TheVariants.{NoteFilter}
 use Rattle.song_facts.specs.declared.facts.Fact.TheVariants.{VoiceTempo, CommonTempo, FunkTurns, FunkChoice}
+use Rattle.song_facts.specs.declared.facts.Fact.TheVariants.{OwnTimer, OwnWave}
 use Rattle.song_facts.specs.declared.facts.Facts.{Facts}
 use Rattle.song_facts.specs.Facts.{HasFact, is_among}
 use Rattle.scopes.specs.Desk.{Layout}
@@ -15,6 +16,7 @@ use Rattle.player_memory.specs.declared.conditions.TheConstants.{ROW_TONE, ROW_S
 use Rattle.player_memory.specs.declared.conditions.TheConstants.{NO_HARD_RESTART, WAVE_DELAY, GATE_NOTE, ROW_COMMAND}
 use Rattle.player_memory.specs.declared.conditions.TheConstants.{NOTE_VIBRATO, VIBRATO_DELAY, NOTE_PULSE, NOTE_FILTER}
 use Rattle.player_memory.specs.declared.conditions.TheConstants.{VOICE_TEMPO, COMMON_TEMPO, FUNK_TURNS, FUNK_CHOICE}
+use Rattle.player_memory.specs.declared.conditions.TheConstants.{OWN_TIMER, OWN_WAVE}
 use Rattle.player_memory.specs.declared.conditions.TheConstants.{SPECIAL_ROW, HELD_NOTE, WAVE_COMMAND}
 use Rattle.player_memory.specs.declared.conditions.TheConstants.{FILTER_TABLE, SET_FILTER_CONTROL, SET_CUTOFF}
 use Rattle.player_memory.specs.declared.conditions.TheConstants.{FILTER_USED}
@@ -37,6 +39,8 @@ fact_condition VoiceTempo = VOICE_TEMPO
 fact_condition CommonTempo = COMMON_TEMPO
 fact_condition FunkTurns = FUNK_TURNS
 fact_condition FunkChoice = FUNK_CHOICE
+fact_condition OwnTimer = OWN_TIMER
+fact_condition OwnWave = OWN_WAVE
 
 -- a layout keeps the lines of each of these facts
 abbrev pub KeepsMarked : Layout → Facts → Type 0
@@ -64,3 +68,9 @@ pub record KeepsShared (layout : Layout) : Type 0 where
   pub filter : layout.holds FILTER_TABLE ≡ true → layout.holds FILTER_USED ≡ true
   pub control : layout.holds SET_FILTER_CONTROL ≡ true → layout.holds FILTER_USED ≡ true
   pub cutoff : layout.holds SET_CUTOFF ≡ true → layout.holds FILTER_USED ≡ true
+
+-- the lines that find out whether an instrument leaves the gate or the envelope as it is before a note are kept only
+-- with those for one that does
+abbrev pub HoldsAlone : Layout → Type 0
+HoldsAlone layout =
+    layout.holds HELD_NOTE ≡ true → (layout.holds LEGATO ≡ true) ⊎ (layout.holds NO_HARD_RESTART ≡ true)

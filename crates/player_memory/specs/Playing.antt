@@ -34,6 +34,12 @@ pub record IsListed (layout : Layout) (rows : ℕ) (at : ℕ → ℕ) (label num
   pub reads : layout.may_read (place_in layout label number) ≡ true
   pub is : at (place_in layout label number) ≡ byte
 
+-- a byte stands alone under a label, which the code may read and leaves
+pub record IsAlone (layout : Layout) (rows : ℕ) (at : ℕ → ℕ) (label byte : ℕ) : Type 0 where
+  pub elsewhere : IsElsewhere layout rows (layout.address label)
+  pub reads : layout.may_read (layout.address label) ≡ true
+  pub is : at (layout.address label) ≡ byte
+
 -- a row of a table stands in two lists, one of left sides and one of right sides, each under the label of the byte
 -- before its first row
 pub record IsRow (layout : Layout) (rows : ℕ) (at : ℕ → ℕ) (lefts rights number : ℕ) (row : TableRow) : Type 0 where

@@ -1,7 +1,7 @@
 -- The lists of a packed song as the player reads them: what each of them has, under which label, and where their bytes
 -- stand. This is the project's own player.
 use Rattle.std.specs.Prelude.{◌≡◌, ℕ, ◌+◌, ◌-◌, ◌*◌, ◌/◌, ◌%◌, ◌<◌, ◌≤◌, ◌==◌}
-use Rattle.std.specs.Prelude.{Bool, true, false, if◌then◌else◌, nat_lt, List, [], length, slice_index, slice_index_or}
+use Rattle.std.specs.Prelude.{Bool, true, false, if◌then◌else◌, ◌||◌, nat_lt, List, [], length, slice_index, slice_index_or}
 use Rattle.std.specs.Prelude.{sum_by}
 use Rattle.std.specs.List.{range_with_len}
 use Rattle.song_model.specs.declared.instruments.Instrument.{Instrument}
@@ -10,6 +10,7 @@ use Rattle.song_model.specs.declared.tables.TableName.{TableName}
 use Rattle.song_model.specs.declared.tables.TableName.TheVariants.{Wave, Pulse, Filter, Speed}
 use Rattle.song_model.specs.LookUp.{table_of, table_row, instrument_at}
 use Rattle.play_model.specs.Freq.{freq}
+use Rattle.song_facts.specs.Facts.{timer_of}
 use Rattle.packed_form.specs.declared.packed_songs.PackedSubtune.{PackedSubtune}
 use Rattle.packed_form.specs.declared.packed_songs.PackedSong.{PackedSong}
 use Rattle.packed_form.specs.Unpacked.{unpacked_song}
@@ -20,7 +21,7 @@ use Rattle.player_memory.specs.declared.labels.TheConstants.{FREQUENCY_LOWS, FRE
 use Rattle.player_memory.specs.declared.labels.TheConstants.{WAVE_LEFTS, WAVE_RIGHTS, PULSE_LEFTS, PULSE_RIGHTS}
 use Rattle.player_memory.specs.declared.labels.TheConstants.{FILTER_LEFTS, FILTER_RIGHTS, SLIDES_LOW, SLIDES_HIGH}
 use Rattle.player_memory.specs.declared.labels.TheConstants.{PERIODS, ADS, ORDERS_LOW, ORDERS_HIGH, PATTERNS_LOW}
-use Rattle.player_memory.specs.declared.labels.TheConstants.{PATTERNS_HIGH, ORDERS, PATTERNS}
+use Rattle.player_memory.specs.declared.labels.TheConstants.{PATTERNS_HIGH, ORDERS, PATTERNS, ONE_TIMER, ONE_WAVE}
 use Rattle.player_memory.specs.Forms.{stored}
 use Rattle.player_memory.specs.Gaps.{gap_in}
 use Rattle.player_memory.specs.Playing.{IsListed}
@@ -37,6 +38,9 @@ pub data SongList : Type 0 where
   Periods : SongList
   -- one of the nine bytes of each instrument, where it is read
   Instruments : (field : ℕ) → SongList
+  -- one byte for all of them: their gateoff timer, their first waveform
+  OneTimer : SongList
+  OneWave : SongList
   -- the addresses of orderlists, three for each subtune, and the places before patterns: low bytes, high bytes
   OrderLows : SongList
   OrderHighs : SongList
@@ -63,13 +67,16 @@ abbrev pub pattern_bytes : PackedSong → ℕ → List ℕ
 pattern_bytes packed pattern = slice_index_or packed.patterns pattern []
 
 -- A field of an instrument is read where a line of the player may read it: its pulse program, its filter program, its
--- vibrato and the delay of that where the song has an instrument with such, and the other five always.
+-- vibrato and the delay of that where the song has an instrument with such; its gateoff timer where two differ in its low
+-- six bits, or one keeps the gate or the envelope; its first waveform where two differ in that; and the other three always.
 abbrev pub is_read : PackedSong → ℕ → Bool
 is_read packed field =
     if field == 3 then packed.facts.note_pulse
     else if field == 4 then packed.facts.note_filter
     else if field == 5 then packed.facts.note_vibrato
     else if field == 6 then packed.facts.vibrato_delay
+    else if field == 7 then packed.facts.own_timer || packed.facts.legato || packed.facts.no_hard_restart
+    else if field == 8 then packed.facts.own_wave
     else nat_lt field 9
 
 -- a field of an instrument, in the order of a file; the vibrato's delay stands less one, 255 for none
@@ -99,6 +106,8 @@ list_byte layout packed (Rights name) number = (row_stored packed name number).r
 list_byte layout packed Periods number = (table_row (unpacked_song packed) Speed number).left % 128
 list_byte layout packed (Instruments field) number =
     instrument_byte field (instrument_at (unpacked_song packed) number)
+list_byte layout packed OneTimer number = timer_of (instrument_at (unpacked_song packed) 1)
+list_byte layout packed OneWave number = (instrument_at (unpacked_song packed) 1).first_wave
 list_byte layout packed OrderLows number = layout.address (ORDERS + number) % 256
 list_byte layout packed OrderHighs number = layout.address (ORDERS + number) / 256
 list_byte layout packed PatternLows number = (layout.address (PATTERNS + number) - 1) % 256
@@ -115,9 +124,17 @@ unread packed field = if is_read packed field then 0 else length packed.instrume
 abbrev pub unread_size : PackedSong → ℕ
 unread_size packed = sum_by (unread packed) (range_with_len 0 9)
 
--- two zeros and what is read of the packed song stand in front of the frequencies, and as many zeros as there is a gap
+-- those that stand alone for all instruments
+abbrev pub shared_size : PackedSong → ℕ
+shared_size packed = (if packed.facts.own_timer then 0 else 1) + (if packed.facts.own_wave then 0 else 1)
+
+-- what stands of the packed song
+abbrev pub bytes_read : PackedSong → ℕ
+bytes_read packed = packed_song_size packed + shared_size packed - unread_size packed
+
+-- two zeros and that stand in front of the frequencies, and as many zeros as there is a gap
 abbrev pub bytes_in_front : PackedSong → ℕ
-bytes_in_front packed = 2 + packed_song_size packed - unread_size packed
+bytes_in_front packed = 2 + bytes_read packed
 
 abbrev pub gap_size : PackedSong → ℕ
 gap_size packed = gap_in packed.numbers (bytes_in_front packed)
@@ -147,6 +164,8 @@ list_length packed (Lefts name) = rows_listed packed name
 list_length packed (Rights name) = rows_listed packed name
 list_length packed Periods = rows_listed packed Speed
 list_length packed (Instruments field) = length packed.instruments
+list_length packed OneTimer = 1
+list_length packed OneWave = 1
 list_length packed OrderLows = 3 * length packed.subtunes
 list_length packed OrderHighs = 3 * length packed.subtunes
 list_length packed PatternLows = length packed.patterns
@@ -159,11 +178,14 @@ pub record HasNumber (packed : PackedSong) (list : SongList) (number : ℕ) : Ty
   pub from : first_number packed list ≤ number
   pub to : number < first_number packed list + list_length packed list
 
--- there is a list of each field of instruments that is read, and three orderlists of each subtune; periods are a list
--- of their own where the code for calculated speeds is kept
+-- there is a list of each field of instruments that is read, a timer and a first waveform for all instruments where no
+-- two differ in theirs, and three orderlists of each subtune; periods are a list of their own where the code for
+-- calculated speeds is kept
 abbrev pub IsSongList : Layout → PackedSong → SongList → Type 0
 IsSongList layout packed Periods = layout.holds NOTE_DEPENDENT ≡ true
 IsSongList layout packed (Instruments field) = is_read packed field ≡ true
+IsSongList layout packed OneTimer = packed.facts.own_timer ≡ false
+IsSongList layout packed OneWave = packed.facts.own_wave ≡ false
 IsSongList layout packed (OrderBytes subtune channel) = (subtune < length packed.subtunes) × (channel < 3)
 IsSongList layout packed (PatternBytes pattern) = pattern < length packed.patterns
 IsSongList layout packed list = Unit {0}
@@ -184,6 +206,8 @@ list_label (Rights Filter) = FILTER_RIGHTS
 list_label (Rights Speed) = SPEED_RIGHTS
 list_label Periods = PERIODS
 list_label (Instruments field) = ADS + field
+list_label OneTimer = ONE_TIMER
+list_label OneWave = ONE_WAVE
 list_label OrderLows = ORDERS_LOW
 list_label OrderHighs = ORDERS_HIGH
 list_label PatternLows = PATTERNS_LOW

@@ -23,8 +23,9 @@ use Rattle.player_memory.specs.declared.conditions.TheConstants.{WAVE_TABLE, WAV
 use Rattle.player_memory.specs.declared.conditions.TheConstants.{ROW_COMMAND, LEGATO, NO_HARD_RESTART, WAVE_DELAY}
 use Rattle.player_memory.specs.declared.conditions.TheConstants.{GATE_NOTE, NOTE_PULSE, NOTE_FILTER, NOTE_VIBRATO}
 use Rattle.player_memory.specs.declared.conditions.TheConstants.{VIBRATO_DELAY}
-use Rattle.player_memory.specs.declared.conditions.TheConstants.{ROW_TONE, FILTER_USED}
+use Rattle.player_memory.specs.declared.conditions.TheConstants.{ROW_TONE, FILTER_USED, HELD_NOTE, OWN_TIMER, OWN_WAVE}
 use Rattle.player_memory.specs.FactLines.{fact_condition, KeepsMarked, KeepsMarkedAlone, KeepsFacts, KeepsShared}
+use Rattle.player_memory.specs.FactLines.{HoldsAlone}
 
 pub record ConditionsAreFeatures : Type 0 where
   pub transposes : bit_of Transpose ≡ TRANSPOSES
@@ -74,6 +75,13 @@ pub record FactLinesAreWorked (layout : Layout) : Type 0 where
   pub filter_more : ¬ KeepsMarkedAlone (with_holding layout (NOTE_FILTER ∷ [])) no_facts
   pub vibrato_more : ¬ KeepsMarkedAlone (with_holding layout (NOTE_VIBRATO ∷ [])) no_facts
   pub delay_more : ¬ KeepsMarkedAlone (with_holding layout (VIBRATO_DELAY ∷ [])) no_facts
+  pub timer_more : ¬ KeepsMarkedAlone (with_holding layout (OWN_TIMER ∷ [])) no_facts
+  pub wave_more : ¬ KeepsMarkedAlone (with_holding layout (OWN_WAVE ∷ [])) no_facts
+  -- those of what is held are kept with the lines of one that holds it, and with no others
+  pub held_gate : HoldsAlone (with_holding layout (HELD_NOTE ∷ LEGATO ∷ []))
+  pub held_envelope : HoldsAlone (with_holding layout (HELD_NOTE ∷ NO_HARD_RESTART ∷ []))
+  pub not_held : HoldsAlone (with_holding layout [])
+  pub held_more : ¬ HoldsAlone (with_holding layout (HELD_NOTE ∷ GATE_NOTE ∷ []))
   pub song : ¬ KeepsFacts (with_holding layout []) one_note
   pub free : KeepsShared (with_holding layout [])
   pub tone : ¬ KeepsShared (with_holding layout (ROW_TONE ∷ []))

@@ -19,10 +19,11 @@ use Rattle.player_memory.specs.declared.labels.TheConstants.{FIRST_WAVES, ORDERS
 use Rattle.player_memory.specs.declared.labels.TheConstants.{PATTERNS_HIGH, ORDERS, PATTERNS, SLIDES_LOW, SLIDES_HIGH}
 use Rattle.player_memory.specs.declared.labels.TheConstants.{NEXT_FREQUENCY_LOWS, NEXT_FREQUENCY_HIGHS}
 use Rattle.player_memory.specs.declared.labels.TheConstants.{NEXT_WAVE_LEFTS, NEXT_WAVE_RIGHTS, NEXT_PULSE_LEFTS}
-use Rattle.player_memory.specs.declared.labels.TheConstants.{NEXT_FILTER_LEFTS}
+use Rattle.player_memory.specs.declared.labels.TheConstants.{NEXT_FILTER_LEFTS, ONE_TIMER, ONE_WAVE}
 use Rattle.player_memory.specs.SongLists.{SongList, FrequencyLows, FrequencyHighs, Lefts, Rights, Periods, Instruments}
-use Rattle.player_memory.specs.SongLists.{OrderLows, OrderHighs, PatternLows, PatternHighs, OrderBytes, PatternBytes}
-use Rattle.player_memory.specs.SongLists.{is_read, unread_size, bytes_in_front, gap_size}
+use Rattle.player_memory.specs.SongLists.{OneTimer, OneWave, OrderLows, OrderHighs, PatternLows, PatternHighs}
+use Rattle.player_memory.specs.SongLists.{OrderBytes, PatternBytes}
+use Rattle.player_memory.specs.SongLists.{is_read, unread_size, shared_size, bytes_in_front, gap_size}
 use Rattle.player_memory.specs.SongLists.{first_number, list_length, list_byte, list_label, IsSongList, HasNumber}
 use Rattle.player_memory.specs.WorkedForms.{sides}
 use Rattle.player_memory.specs.WorkedMemory.{at_1000}
@@ -50,7 +51,8 @@ second_subtune = record {
   three = 0xE1 ∷ 0x00 ∷ 0xD2 ∷ 0x01 ∷ 0xFF ∷ 0x00 ∷ [];
 }
 
--- each of the fields that need a fact has one in them
+-- Each of the fields that need a fact has one in them. The instruments have one gateoff timer, but for the bit that
+-- keeps the envelope, and two first waveforms.
 abbrev pub its_facts : Facts
 its_facts = record no_facts {
   no_hard_restart = true;
@@ -60,6 +62,7 @@ its_facts = record no_facts {
   vibrato_delay = true;
   note_pulse = true;
   note_filter = true;
+  own_wave = true;
 }
 
 -- A note and a keyoff with the first of them, and a note with the second; with this speed table. Let it ask for the
@@ -155,6 +158,7 @@ instrument_pieces =
     ∷ piece (Instruments 6) DELAYS 0x1131 1 (0x05 ∷ 0xFF ∷ [])
     ∷ piece (Instruments 7) GATE_TIMERS 0x1133 1 (0x02 ∷ 0x82 ∷ [])
     ∷ piece (Instruments 8) FIRST_WAVES 0x1135 1 (0x09 ∷ 0x11 ∷ [])
+    ∷ piece OneTimer ONE_TIMER 0x1160 0 (0x02 ∷ [])
     ∷ []
 
 -- six orderlists, the second subtune's behind the first's, and two patterns; the place before a pattern is listed
@@ -176,11 +180,12 @@ order_pieces =
 
 -- ---- where they stand
 
--- the places behind these lists' labels have labels of their own
+-- the places behind these lists' labels have labels of their own, and a list that isn't there has one, too
 abbrev pub next_places : List (ℕ × ℕ)
 next_places =
     (NEXT_FREQUENCY_LOWS, 0x1211) ∷ (NEXT_FREQUENCY_HIGHS, 0x12A1) ∷ (NEXT_WAVE_LEFTS, 0x1114)
-    ∷ (NEXT_WAVE_RIGHTS, 0x1118) ∷ (NEXT_PULSE_LEFTS, 0x111C) ∷ (NEXT_FILTER_LEFTS, 0x1120) ∷ []
+    ∷ (NEXT_WAVE_RIGHTS, 0x1118) ∷ (NEXT_PULSE_LEFTS, 0x111C) ∷ (NEXT_FILTER_LEFTS, 0x1120)
+    ∷ (ONE_WAVE, 0x1161) ∷ []
 
 abbrev pub all_pieces : List Piece
 all_pieces = table_pieces ++ instrument_pieces ++ order_pieces
@@ -208,27 +213,37 @@ plain_layout = record list_layout {
 abbrev pub with_facts : Facts → PackedSong
 with_facts facts = record worked_song { facts = facts }
 
--- whether each of the nine is, and a tenth, which there isn't; and the bytes of the others, of two instruments
-abbrev pub reads_of : PackedSong → List Bool × ℕ
-reads_of packed = (map (is_read packed) (range_with_len 0 10), unread_size packed)
+-- whether each of the nine is, and a tenth, which there isn't; the bytes of the others, of two instruments; and how many
+-- stand for both
+abbrev pub reads_of : PackedSong → List Bool × ℕ × ℕ
+reads_of packed = (map (is_read packed) (range_with_len 0 10), unread_size packed, shared_size packed)
 
 pub record ReadFieldsAreWorked : Type 0 where
   pub all : reads_of worked_song
-      ≡ (true ∷ true ∷ true ∷ true ∷ true ∷ true ∷ true ∷ true ∷ true ∷ false ∷ [], 0)
+      ≡ (true ∷ true ∷ true ∷ true ∷ true ∷ true ∷ true ∷ true ∷ true ∷ false ∷ [], 0, 1)
   pub none : reads_of (with_facts no_facts)
-      ≡ (true ∷ true ∷ true ∷ false ∷ false ∷ false ∷ false ∷ true ∷ true ∷ false ∷ [], 8)
+      ≡ (true ∷ true ∷ true ∷ false ∷ false ∷ false ∷ false ∷ false ∷ false ∷ false ∷ [], 12, 2)
   -- for each of these facts its own field
   pub no_pulse : reads_of (with_facts (record its_facts { note_pulse = false }))
-      ≡ (true ∷ true ∷ true ∷ false ∷ true ∷ true ∷ true ∷ true ∷ true ∷ false ∷ [], 2)
+      ≡ (true ∷ true ∷ true ∷ false ∷ true ∷ true ∷ true ∷ true ∷ true ∷ false ∷ [], 2, 1)
   pub no_filter : reads_of (with_facts (record its_facts { note_filter = false }))
-      ≡ (true ∷ true ∷ true ∷ true ∷ false ∷ true ∷ true ∷ true ∷ true ∷ false ∷ [], 2)
+      ≡ (true ∷ true ∷ true ∷ true ∷ false ∷ true ∷ true ∷ true ∷ true ∷ false ∷ [], 2, 1)
   pub no_vibrato : reads_of (with_facts (record its_facts { note_vibrato = false }))
-      ≡ (true ∷ true ∷ true ∷ true ∷ true ∷ false ∷ true ∷ true ∷ true ∷ false ∷ [], 2)
+      ≡ (true ∷ true ∷ true ∷ true ∷ true ∷ false ∷ true ∷ true ∷ true ∷ false ∷ [], 2, 1)
   pub no_delay : reads_of (with_facts (record its_facts { vibrato_delay = false }))
-      ≡ (true ∷ true ∷ true ∷ true ∷ true ∷ true ∷ false ∷ true ∷ true ∷ false ∷ [], 2)
-  -- in front of the frequencies there are as many fewer bytes
-  pub in_front : bytes_in_front worked_song ≡ 92
-  pub in_front_of_fewer : bytes_in_front (with_facts no_facts) ≡ 84
+      ≡ (true ∷ true ∷ true ∷ true ∷ true ∷ true ∷ false ∷ true ∷ true ∷ false ∷ [], 2, 1)
+  pub one_wave : reads_of (with_facts (record its_facts { own_wave = false }))
+      ≡ (true ∷ true ∷ true ∷ true ∷ true ∷ true ∷ true ∷ true ∷ false ∷ false ∷ [], 2, 2)
+  -- the gateoff timer for any of three
+  pub one_timer : reads_of (with_facts (record its_facts { no_hard_restart = false }))
+      ≡ (true ∷ true ∷ true ∷ true ∷ true ∷ true ∷ true ∷ false ∷ true ∷ false ∷ [], 2, 1)
+  pub own_timer : reads_of (with_facts (record its_facts { no_hard_restart = false; own_timer = true }))
+      ≡ (true ∷ true ∷ true ∷ true ∷ true ∷ true ∷ true ∷ true ∷ true ∷ false ∷ [], 0, 0)
+  pub gate_kept : reads_of (with_facts (record its_facts { no_hard_restart = false; legato = true }))
+      ≡ (true ∷ true ∷ true ∷ true ∷ true ∷ true ∷ true ∷ true ∷ true ∷ false ∷ [], 0, 1)
+  -- in front of the frequencies there are as many fewer bytes, and those that stand for both
+  pub in_front : bytes_in_front worked_song ≡ 93
+  pub in_front_of_fewer : bytes_in_front (with_facts no_facts) ≡ 82
 
 -- ---- gaps in front of the frequencies
 
@@ -243,12 +258,12 @@ asking first count within = record worked_song {
 pub record GapsAreWorked : Type 0 where
   -- where it asks for none
   pub none : gap_size (asking 0 0 (omega arith)) ≡ 0
-  -- with 92 bytes in front there is none up to number 92; from 93 on it is one byte more a number
-  pub last : gap_size (asking 92 3 (omega arith)) ≡ 0
-  pub beyond : gap_size (asking 93 3 (omega arith)) ≡ 1
-  pub far : gap_size (asking 128 1 (omega arith)) ≡ 36
-  -- with 84, where four fields of instruments aren't read
-  pub fewer : gap_size (record (asking 92 3 (omega arith)) { facts = no_facts }) ≡ 8
+  -- with 93 bytes in front there is none up to number 93; from 94 on it is one byte more a number
+  pub last : gap_size (asking 93 3 (omega arith)) ≡ 0
+  pub beyond : gap_size (asking 94 3 (omega arith)) ≡ 1
+  pub far : gap_size (asking 128 1 (omega arith)) ≡ 35
+  -- with 82, where six fields of instruments aren't read
+  pub fewer : gap_size (record (asking 92 3 (omega arith)) { facts = no_facts }) ≡ 10
 
 -- ---- as worked
 
@@ -275,6 +290,11 @@ pub record SongListsAreWorked : Type 0 where
   pub no_channel : ¬ IsSongList list_layout worked_song (OrderBytes 0 3)
   pub no_pattern : ¬ IsSongList list_layout worked_song (PatternBytes 2)
   pub no_pulses : ¬ IsSongList list_layout (with_facts no_facts) (Instruments 3)
+  pub no_one_wave : ¬ IsSongList list_layout worked_song OneWave
+  pub no_one_timer : ¬ IsSongList list_layout (with_facts (record its_facts { own_timer = true })) OneTimer
+  -- a first waveform for both instruments, where they have one
+  pub one_wave : IsAsWorked list_layout (with_facts (record its_facts { own_wave = false }))
+      (piece OneWave ONE_WAVE 0x1161 0 (0x09 ∷ []))
   pub no_periods : ¬ IsSongList plain_layout plain_song Periods
   -- the numbers of a list at its ends
   pub speed_row_none : HasNumber worked_song (Rights Speed) 0

@@ -6,10 +6,10 @@ use Rattle.play_model.specs.State.{Voice, start_voice, start_common}
 use Rattle.scopes.specs.Desk.{Layout}
 use Rattle.player_memory.specs.declared.conditions.TheConstants.{ROW_COMMAND, EFFECTS, SWINGS, INSTRUMENT_VIBRATO}
 use Rattle.player_memory.specs.declared.conditions.TheConstants.{NOTE_DEPENDENT, WAVE_DELAY, PULSE_TABLE, FILTER_USED}
-use Rattle.player_memory.specs.declared.conditions.TheConstants.{SET_VOLUME, FUNK_TEMPO}
+use Rattle.player_memory.specs.declared.conditions.TheConstants.{SET_VOLUME, FUNK_TEMPO, OWN_TIMER}
 use Rattle.player_memory.specs.declared.labels.TheConstants.{COMMAND, PARAM, VIB_TIME, LAST_NOTE, WAVE_TIME, VOLUME}
 use Rattle.player_memory.specs.declared.labels.TheConstants.{FUNK_ONE, FUNK_TWO, FILTER_POINTER, FILTER_TYPE}
-use Rattle.player_memory.specs.declared.labels.TheConstants.{FILTER_CONTROL, CUTOFF}
+use Rattle.player_memory.specs.declared.labels.TheConstants.{FILTER_CONTROL, CUTOFF, GATE_TIMER}
 use Rattle.player_memory.specs.declared.labels.TheConstants.{VARIABLES, TICK, INSTRUMENT, NOTE, GATE, VIB_DELAY}
 use Rattle.player_memory.specs.declared.labels.TheConstants.{TEMPO, FREQ_LOW, FREQ_HIGH}
 use Rattle.player_memory.specs.declared.labels.TheConstants.{NEW_COMMAND, NEW_PARAM, PULSE_LOW, PULSE_HIGH, LENT}
@@ -129,6 +129,7 @@ pub record VoiceRowsAreWorked : Type 0 where
   pub vib_delay : StandsUnder INSTRUMENT_VIBRATO VIB_DELAY 3
   pub last_note : StandsUnder NOTE_DEPENDENT LAST_NOTE 1
   pub wave_time : StandsUnder WAVE_DELAY WAVE_TIME 1
+  pub gate_timer : StandsUnder OWN_TIMER GATE_TIMER 1
   pub pulse_low : StandsUnder PULSE_TABLE PULSE_LOW 1
   pub pulse_high : StandsUnder PULSE_TABLE PULSE_HIGH 1
 

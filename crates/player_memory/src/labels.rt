@@ -173,6 +173,10 @@ pub const ORDERS_HIGH: u16 = 155;
 pub const PATTERNS_LOW: u16 = 156;
 /// The high bytes of the places before the patterns.
 pub const PATTERNS_HIGH: u16 = 157;
+/// The low six bits of the gateoff timer, where all instruments that the song uses have the same.
+pub const ONE_TIMER: u16 = 158;
+/// The first waveform, where all of them have the same.
+pub const ONE_WAVE: u16 = 159;
 
 /// The first of the labels of the orderlists: three for each subtune.
 pub const ORDERS: u16 = 256;

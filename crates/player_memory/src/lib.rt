@@ -14,4 +14,7 @@ pub mod labels;
 mod listed;
 pub mod variables;
 
-pub use listed::{DELAY_BYTE, gap_size, is_read, unread_size};
+pub use listed::{
+    DELAY_BYTE, FIRST_WAVE_BYTE, TIMER_BYTE, bytes_read, gap_size, is_read, shared_size,
+    unread_size,
+};

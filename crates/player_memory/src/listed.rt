@@ -1,7 +1,7 @@
 //! Which lists of a packed song there are.
 
 ghost use Rattle.std.specs.Prelude.{◌≡◌, ◌≤◌, ◌<◌, ◌*◌, length};
-ghost use Rattle.player_memory.specs.SongLists.{is_read, unread, unread_size, gap_size};
+ghost use Rattle.player_memory.specs.SongLists.{is_read, unread, unread_size, shared_size, bytes_read, gap_size};
 
 use packed_form::PackedSong;
 
@@ -17,6 +17,12 @@ const VIBRATO_BYTE: usize = 5;
 /// That of its vibrato's delay.
 pub const DELAY_BYTE: usize = 6;
 
+/// That of its gateoff timer.
+pub const TIMER_BYTE: usize = 7;
+
+/// That of its first waveform.
+pub const FIRST_WAVE_BYTE: usize = 8;
+
 /// Whether a line of the player may read this byte of an instrument, 0 to 8: some only where the song has an instrument
 /// that needs it.
 pub fn is_read(packed: &PackedSong, field: usize) -> bool
@@ -29,6 +35,8 @@ pub fn is_read(packed: &PackedSong, field: usize) -> bool
         FILTER_BYTE => facts.note_filter,
         VIBRATO_BYTE => facts.note_vibrato,
         DELAY_BYTE => facts.vibrato_delay,
+        TIMER_BYTE => facts.own_timer || facts.legato || facts.no_hard_restart,
+        FIRST_WAVE_BYTE => facts.own_wave,
         _ => true,
     }
 }
@@ -50,13 +58,33 @@ fn unread(packed: &PackedSong, field: usize) -> u32
 /// The bytes of instruments that no line of the player reads, and that stand nowhere in an image.
 pub fn unread_size(packed: &PackedSong) -> u32
     ensures size { result ≡ unread_size packed.now }
-    ensures within { result ≤ 4 * length packed.now.instruments }
-    ensures most { result ≤ 252 }
+    ensures within { result ≤ 6 * length packed.now.instruments }
+    ensures most { result ≤ 378 }
 {
     unread(packed, PULSE_BYTE)
         + unread(packed, FILTER_BYTE)
         + unread(packed, VIBRATO_BYTE)
         + unread(packed, DELAY_BYTE)
+        + unread(packed, TIMER_BYTE)
+        + unread(packed, FIRST_WAVE_BYTE)
+}
+
+/// The bytes that stand alone for all instruments: a gateoff timer where no two that the song uses differ in it, and a
+/// first waveform where no two differ in that.
+pub fn shared_size(packed: &PackedSong) -> u32
+    ensures size { result ≡ shared_size packed.now }
+    ensures most { result ≤ 2 }
+{
+    u32::from(!packed.facts.own_timer) + u32::from(!packed.facts.own_wave)
+}
+
+/// The bytes of a packed song that stand in an image: those of the fields of instruments that no line reads are left
+/// out, and those that stand alone for all instruments come in.
+pub fn bytes_read(packed: &PackedSong) -> u32
+    ensures size { result ≡ bytes_read packed.now }
+    ensures most { result ≤ 81041 }
+{
+    packed.size() + shared_size(packed) - unread_size(packed)
 }
 
 /// How many zeros stand in front of the frequencies: as many as there are numbers below the first one that the song
@@ -66,6 +94,6 @@ pub fn gap_size(packed: &PackedSong) -> u32
     ensures size { result ≡ gap_size packed.now }
     ensures most { result ≤ packed.now.numbers.first }
 {
-    let front = 2 + packed.size() - unread_size(packed);
+    let front = 2 + bytes_read(packed);
     u32::from(packed.numbers.first).saturating_sub(front)
 }

@@ -7,9 +7,10 @@
 
 use crate::conditions::{
     EFFECTS, FILTER_TABLE, FILTER_USED, FUNK_CHOICE, FUNK_TEMPO, INSTRUMENT_VIBRATO,
-    NOTE_DEPENDENT, NOTE_FILTER, NOTE_PULSE, PULSE_TABLE, REPEATS, ROW_COMMAND, ROW_ONCE,
-    ROW_SLIDE, ROW_TONE, SET_CUTOFF, SET_FILTER_CONTROL, SET_FILTER_POINTER, SET_PULSE_POINTER,
-    SET_VOLUME, SKIP_FIRST, SWINGS, TRANSPOSES, VIBRATO_DELAY, WAVE_COMMAND, WAVE_DELAY,
+    NOTE_DEPENDENT, NOTE_FILTER, NOTE_PULSE, OWN_TIMER, PULSE_TABLE, REPEATS, ROW_COMMAND,
+    ROW_ONCE, ROW_SLIDE, ROW_TONE, SET_CUTOFF, SET_FILTER_CONTROL, SET_FILTER_POINTER,
+    SET_PULSE_POINTER, SET_VOLUME, SKIP_FIRST, SWINGS, TRANSPOSES, VIBRATO_DELAY, WAVE_COMMAND,
+    WAVE_DELAY,
 };
 use crate::labels::{
     AD, COMMAND, CUTOFF, FILTER_CONTROL, FILTER_POINTER, FILTER_TIME, FILTER_TYPE, FREQ_HIGH,
@@ -110,7 +111,7 @@ pub enum CommonByte {
 /// The labels of a voice's bytes, what each of them holds, and where it does.
 pub const VOICE_BYTES: [(u16, VoiceByte, Kept); 25] = [
     (TICK, VoiceByte::Tick, Kept::Always),
-    (GATE_TIMER, VoiceByte::GateTimer, Kept::Always),
+    (GATE_TIMER, VoiceByte::GateTimer, Kept::Where(OWN_TIMER)),
     (INSTRUMENT, VoiceByte::Instrument, Kept::Always),
     (NOTE, VoiceByte::Note, Kept::Always),
     (NEW_NOTE, VoiceByte::NewNote, Kept::Always),
@@ -186,7 +187,7 @@ pub const VOICE_VARIABLES: [(u16, &[u8]); 34] = [
     (TRANSPOSE, &[TRANSPOSES]),
     (REPEAT, &[REPEATS]),
     (TICK, &[]),
-    (GATE_TIMER, &[]),
+    (GATE_TIMER, &[OWN_TIMER]),
     (INSTRUMENT, &[]),
     (NOTE, &[]),
     (NEW_NOTE, &[]),
