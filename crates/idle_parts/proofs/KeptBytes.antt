@@ -7,14 +7,15 @@ use Rattle.std.specs.Int.Bits.{bit_and}
 use Rattle.std.proofs.lemmas.Grind.{and_numeral}
 use Rattle.play_model.specs.State.{Playing}
 use Rattle.scopes.specs.Desk.{Desk, Layout}
-use Rattle.player_memory.specs.declared.conditions.TheConstants.{EFFECTS, INSTRUMENT_VIBRATO}
-use Rattle.player_memory.specs.declared.labels.TheConstants.{NEW_COMMAND, COMMAND, PARAM, VOLUME}
+use Rattle.player_memory.specs.declared.conditions.TheConstants.{EFFECTS, INSTRUMENT_VIBRATO, OWN_TIMER}
+use Rattle.player_memory.specs.declared.labels.TheConstants.{NEW_COMMAND, COMMAND, PARAM, VOLUME, GATE_TIMER, ONE_TIMER}
 use Rattle.player_memory.specs.declared.labels.TheConstants.{CUTOFF, FILTER_CONTROL, FILTER_TYPE, PULSE_LOW, PULSE_HIGH}
-use Rattle.player_memory.specs.Playing.{own_at, shared_at}
+use Rattle.player_memory.specs.Playing.{own_at, shared_at, IsAlone}
 use Rattle.player_text.specs.declared.joints.TheConstants.{EFFECTED}
 use Rattle.player_text.specs.declared.effect.TheConstants.{EFFECT_BEGUN}
 use Rattle.idle_parts.specs.Idle.{HoldsVoice, part}
-use Rattle.idle_parts.specs.KeptBytes.{FilterLoads, VoiceLoads, LeavesAll}
+use Rattle.idle_parts.specs.KeptBytes.{FilterLoads, VoiceLoads, LeavesAll, CompareAlike}
+use Rattle.player_text.specs.declared.fetch.TheConstants.{ROW_AWAITED}
 use Rattle.idle_parts.specs.KeptBytes.{ReadWhereKept, PairsAreKept}
 use Rattle.idle_parts.proofs.Reading.{CommonBytes, own_sees, own_is, own_bytes, common_bytes}
 
@@ -101,6 +102,34 @@ none_goes h kept none bare false vibrato =
       decimal = rw (sees, is, vibrato) refl;
     }
 
+-- the voice's timer, and the one that stands for all
+compare_alike : {layout : Layout} {rows voice : ℕ} {s : Playing} {desk : Desk} → HoldsVoice layout rows voice s desk →
+    layout.holds OWN_TIMER ≡ true → IsAlone layout rows desk.at ONE_TIMER s.voice.gate_timer →
+    CompareAlike layout (part OWN_TIMER 0 ROW_AWAITED.now) (part OWN_TIMER 1 ROW_AWAITED.now) desk
+compare_alike {s = s} h kept alone =
+    let sees = own_sees h GATE_TIMER refl in
+    let is = own_is h GATE_TIMER s.voice.gate_timer refl ((own_bytes h).gate_timer kept) in
+    let sees_one = alone.reads in
+    let is_one = alone.is in
+    record {
+      here = record {
+        ends = rw sees refl;
+        stays = λ place. rw sees refl;
+        x = rw sees refl;
+        decimal = rw sees refl;
+        kept_are = rw sees (refl, (refl, tt));
+      };
+      there = record {
+        ends = rw sees_one refl;
+        stays = λ place. rw sees_one refl;
+        x = rw sees_one refl;
+        decimal = rw sees_one refl;
+        kept_are = rw sees_one (refl, (refl, tt));
+      };
+      zero_is = rw (sees, sees_one, is, is_one) refl;
+      carry_is = rw (sees, sees_one, is, is_one) refl;
+    }
+
 pub voice_loads : VoiceLoads
 voice_loads layout rows voice s desk h = record {
   width_low = λ kept none. (
@@ -166,6 +195,34 @@ voice_loads layout rows voice s desk h = record {
   bare_load = record { ends = refl; stays = λ place. refl; x = refl; decimal = refl; kept_are = (refl, (refl, tt)) };
   none_runs = λ kept none bare. none_goes h kept none bare _ refl;
   none_ends = record { goes = refl; stays = λ place. refl; x = refl; decimal = refl };
+  first_wave = λ wave listed alone. (
+      let sees = listed.reads in
+      let is = listed.is in
+      let sees_one = alone.reads in
+      let is_one = alone.is in
+      record {
+        alike = record {
+          here = record {
+            ends = rw sees refl;
+            stays = λ place. rw sees refl;
+            x = rw sees refl;
+            decimal = rw sees refl;
+            kept_are = rw sees (refl, (refl, tt));
+          };
+          there = record {
+            ends = rw sees_one refl;
+            stays = λ place. rw sees_one refl;
+            x = rw sees_one refl;
+            decimal = rw sees_one refl;
+            kept_are = rw sees_one (refl, (refl, tt));
+          };
+          a_is = rw (sees, sees_one, is, is_one) refl;
+        };
+        zero_is = rw (sees, sees_one, is, is_one) refl;
+      });
+  awaited = λ kept alone. compare_alike h kept alone;
+  reached = λ kept alone. compare_alike h kept alone;
+  first_reached = λ kept alone. compare_alike h kept alone;
 }
 
 -- ---- where they are read

@@ -13,7 +13,7 @@ use Rattle.player_memory.specs.declared.conditions.TheConstants.{WAVE_DELAY, SKI
 use Rattle.player_memory.specs.declared.labels.TheConstants.{NEW_COMMAND, NEW_PARAM, COMMAND, PARAM, VIB_TIME}
 use Rattle.player_memory.specs.declared.labels.TheConstants.{VIB_DELAY}
 use Rattle.player_memory.specs.declared.labels.TheConstants.{LAST_NOTE, WAVE_TIME, VOLUME, FUNK_ONE, FUNK_TWO, VIBRATOS}
-use Rattle.player_memory.specs.declared.labels.TheConstants.{TICK, KEPT_PARAM}
+use Rattle.player_memory.specs.declared.labels.TheConstants.{TICK, KEPT_PARAM, GATE_TIMER, GATE_TIMERS}
 use Rattle.player_text.specs.declared.tick.TheConstants.{NOTE_BEGUN, COMMAND_BEGUN}
 use Rattle.player_text.specs.declared.fetch.TheConstants.{ENTRY_BEGUN}
 use Rattle.idle_parts.specs.Idle.{Kept, Y, Carry, AreKept, part}
@@ -267,6 +267,18 @@ stored_one {layout = layout} {one = one} {desk = desk} cpu byte steps is x decim
 
 pub stores_idle : StoresIdle
 stores_idle = record {
+  timer = λ layout desk may listed. (
+      let writes : layout.may_write ((layout.address GATE_TIMER + desk.cpu.x) % 65536) ≡ true = may.0.1 in
+      let reads : layout.may_read ((layout.address GATE_TIMERS + desk.cpu.y) % 65536) ≡ true = listed in
+      record {
+        ends = rw (reads, writes) refl;
+        stays = λ place away. (
+            let apart = ne_eqb place ((layout.address GATE_TIMER + desk.cpu.x) % 65536) away.0 in
+            rw (reads, writes, apart) refl);
+        x = rw (reads, writes) refl;
+        decimal = rw (reads, writes) refl;
+        kept_are = rw (reads, writes) (refl, (refl, tt));
+      });
   note_time = λ layout desk may. (
       let writes : layout.may_write ((layout.address WAVE_TIME + desk.cpu.x) % 65536) ≡ true = may.0.1 in
       stored_one desk.cpu desk.cpu.a 1 (rw writes refl) refl refl (refl, (refl, (refl, tt))));

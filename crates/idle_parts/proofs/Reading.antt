@@ -5,9 +5,9 @@ use Rattle.player_memory.specs.Labels.{is_own}
 use Rattle.play_model.specs.State.{Voice, Common, Playing}
 use Rattle.scopes.specs.Desk.{Desk, Layout}
 use Rattle.player_memory.specs.declared.conditions.TheConstants.{ROW_COMMAND, EFFECTS, INSTRUMENT_VIBRATO}
-use Rattle.player_memory.specs.declared.conditions.TheConstants.{PULSE_TABLE, FILTER_USED, SET_VOLUME}
+use Rattle.player_memory.specs.declared.conditions.TheConstants.{PULSE_TABLE, FILTER_USED, SET_VOLUME, OWN_TIMER}
 use Rattle.player_memory.specs.declared.labels.TheConstants.{TICK, INSTRUMENT, NEW_COMMAND, NEW_PARAM, COMMAND, PARAM}
-use Rattle.player_memory.specs.declared.labels.TheConstants.{VIB_DELAY}
+use Rattle.player_memory.specs.declared.labels.TheConstants.{VIB_DELAY, GATE_TIMER}
 use Rattle.player_memory.specs.declared.labels.TheConstants.{WAVE_POINTER, PULSE_POINTER, PULSE_LOW, PULSE_HIGH}
 use Rattle.player_memory.specs.declared.labels.TheConstants.{FILTER_TYPE, FILTER_CONTROL, CUTOFF, VOLUME}
 use Rattle.player_memory.specs.Variables.{CommonBytesStand}
@@ -49,6 +49,7 @@ own_is {layout} {desk = desk} h label byte own is = ap desk.at (own_place h labe
 
 pub record OwnBytes (holds : ℕ → Bool) (v : Voice) (own : ℕ → ℕ) : Type 0 where
   pub tick : own TICK ≡ v.tick
+  pub gate_timer : holds OWN_TIMER ≡ true → own GATE_TIMER ≡ v.gate_timer
   pub instrument : own INSTRUMENT ≡ v.instrument
   pub new_command : holds ROW_COMMAND ≡ true → own NEW_COMMAND ≡ v.new_command
   pub new_param : holds ROW_COMMAND ≡ true → v.new_command ≢ 0 → own NEW_PARAM ≡ v.new_param
@@ -64,6 +65,7 @@ pub own_bytes : {layout : Layout} {rows voice : ℕ} {s : Playing} {desk : Desk}
     OwnBytes layout.holds s.voice (own_at layout desk.at voice)
 own_bytes h = record {
   tick = h.plays.own.0;
+  gate_timer = h.plays.own.1.0;
   instrument = h.plays.own.1.1.0;
   new_command = h.plays.own.1.1.1.1.1.0;
   new_param = h.plays.own.1.1.1.1.1.1.0;

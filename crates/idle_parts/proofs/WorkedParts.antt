@@ -16,7 +16,7 @@ use Rattle.player_memory.specs.declared.labels.TheConstants.{AD, GATE, PULSE_POI
 use Rattle.player_memory.specs.declared.labels.TheConstants.{VIB_DELAY}
 use Rattle.player_memory.specs.declared.labels.TheConstants.{TEMPO_THREE, WAVE_TIME, COMMAND, KEPT_PARAM}
 use Rattle.player_memory.specs.declared.labels.TheConstants.{FILTER_POINTER, FILTER_TIME}
-use Rattle.player_memory.specs.declared.labels.TheConstants.{NEW_NOTE, INSTRUMENT, GATE_TIMERS}
+use Rattle.player_memory.specs.declared.labels.TheConstants.{NEW_NOTE, INSTRUMENT, GATE_TIMER, GATE_TIMERS}
 use Rattle.player_memory.specs.Playing.{IsListed}
 use Rattle.idle_parts.proofs.Reading.{own_sees, own_writes, own_is, own_bytes}
 
@@ -165,12 +165,30 @@ parts_are_worked = record {
   width_high = λ i. (let a = i.kept_are.0 in absurd (cc));
   volume = λ alike. (let a = alike.a_is in absurd (cc));
   width_low = λ alike. (let a = alike.a_is in absurd (cc));
+  first_wave = λ shows. (let a = shows.alike.a_is in absurd (cc));
+  same_wave = record {
+    alike = record {
+      here = record { ends = refl; stays = λ place. refl; x = refl; decimal = refl; kept_are = (refl, (refl, tt)) };
+      there = record { ends = refl; stays = λ place. refl; x = refl; decimal = refl; kept_are = (refl, (refl, tt)) };
+      a_is = refl;
+    };
+    zero_is = refl;
+  };
+  timer = λ compares. (let zero = compares.zero_is in absurd (cc));
+  later_timer = λ compares. (let carry = compares.carry_is in absurd (cc));
+  same_timer = record {
+    here = record { ends = refl; stays = λ place. refl; x = refl; decimal = refl; kept_are = (refl, (refl, tt)) };
+    there = record { ends = refl; stays = λ place. refl; x = refl; decimal = refl; kept_are = (refl, (refl, tt)) };
+    zero_is = refl;
+    carry_is = refl;
+  };
   bare = λ clears. (let way = clears.ends in absurd (cc));
   no_load = λ clears. (let a = clears.a_is in absurd (cc));
   with_load = λ i. (let a = i.kept_are.0 in absurd (cc));
   load = λ i. (let a = i.kept_are.0 in absurd (cc));
   runs = λ leaves. (let name : 134 ≡ 132 = ap name_of leaves.goes in absurd (omega (arith, name)));
   stored = λ i. (let stays = i.stays WAVE_TIME tt in absurd (cc));
+  stored_timer = λ i. (let stays = i.stays GATE_TIMER tt in absurd (cc));
   stored_by = λ i. (let a = i.kept_are.0 in absurd (cc));
   time = λ i. (let stays = i.stays WAVE_TIME ((λ e. omega (arith, e)), ((λ e. omega (arith, e)), tt)) in absurd (cc));
   command = λ i. (let stays = i.stays COMMAND ((λ e. omega (arith, e)), ((λ e. omega (arith, e)), tt)) in absurd (cc));

@@ -17,11 +17,12 @@ use Rattle.kept_lines.specs.KeptLines.{keeps}
 use Rattle.player_memory.specs.declared.conditions.TheConstants.{FILTER_USED, SET_VOLUME, PULSE_TABLE, ROW_COMMAND}
 use Rattle.player_memory.specs.declared.conditions.TheConstants.{WAVE_DELAY, NOTE_DEPENDENT, SWINGS, INSTRUMENT_VIBRATO}
 use Rattle.player_memory.specs.declared.conditions.TheConstants.{FUNK_TEMPO, ROW_TONE, ROW_ONCE, WAVE_COMMAND}
-use Rattle.player_memory.specs.declared.conditions.TheConstants.{FILTER_TABLE, EFFECTS, SKIP_FIRST}
+use Rattle.player_memory.specs.declared.conditions.TheConstants.{FILTER_TABLE, EFFECTS, SKIP_FIRST, OWN_TIMER, OWN_WAVE}
 use Rattle.player_memory.specs.declared.labels.TheConstants.{NEW_COMMAND, NEW_PARAM, COMMAND, PARAM, VIB_TIME}
 use Rattle.player_memory.specs.declared.labels.TheConstants.{VIB_DELAY}
 use Rattle.player_memory.specs.declared.labels.TheConstants.{LAST_NOTE, WAVE_TIME, VOLUME, FUNK_ONE, FUNK_TWO, VIBRATOS}
-use Rattle.player_memory.specs.declared.labels.TheConstants.{TICK, KEPT_PARAM}
+use Rattle.player_memory.specs.declared.labels.TheConstants.{TICK, KEPT_PARAM, GATE_TIMER, GATE_TIMERS, FIRST_WAVES, ONE_TIMER}
+use Rattle.player_memory.specs.declared.labels.TheConstants.{ONE_WAVE}
 use Rattle.player_memory.specs.declared.variables.Kept.{Kept as Row}
 use Rattle.player_memory.specs.declared.variables.Kept.TheVariants.{Always, Where, Else}
 use Rattle.player_memory.specs.declared.variables.VoiceByte.{VoiceByte}
@@ -29,13 +30,14 @@ use Rattle.player_memory.specs.declared.variables.CommonByte.{CommonByte}
 use Rattle.player_memory.specs.declared.variables.TheConstants.{VOICE_BYTES, COMMON_BYTES}
 use Rattle.player_memory.specs.Rooms.{IsRoom, MayUse}
 use Rattle.player_memory.specs.Variables.{CommonBytesStand}
-use Rattle.player_memory.specs.Playing.{shared_at}
-use Rattle.player_text.specs.declared.tick.TheConstants.{NOTE_BEGUN, COMMAND_BEGUN, BARE}
+use Rattle.player_memory.specs.Playing.{shared_at, IsListed, IsAlone}
+use Rattle.player_text.specs.declared.tick.TheConstants.{GATE_TIMER_SET, NOTE_BEGUN, COMMAND_BEGUN, BARE}
 use Rattle.player_text.specs.declared.commands.TheConstants.{WAVE_POINTER_SET}
 use Rattle.player_text.specs.declared.joints.TheConstants.{EFFECTED}
 use Rattle.player_text.specs.declared.effect.TheConstants.{EFFECT_BEGUN}
 use Rattle.player_text.specs.declared.pitch.TheConstants.{PITCH}
-use Rattle.player_text.specs.declared.fetch.TheConstants.{ENTRY_BEGUN, ENTRY_READ}
+use Rattle.player_text.specs.declared.fetch.TheConstants.{ROW_AWAITED, ROW_REACHED, FIRST_REACHED, ENTRY_BEGUN}
+use Rattle.player_text.specs.declared.fetch.TheConstants.{ENTRY_READ}
 use Rattle.player_text.specs.declared.filter.TheConstants.{FILTER_REGISTERS}
 use Rattle.player_text.specs.declared.register.TheConstants.{REGISTERS}
 use Rattle.player_text.specs.declared.init.TheConstants.{VARIABLES_CLEARED, FUNK_STARTED, VOICE_STARTED, TEMPO_STARTED}
@@ -51,6 +53,19 @@ pub record Alike (layout : Layout) (one other : Tree) (desk : Desk) (kept : List
   pub here : Idles layout one desk kept
   pub there : Idles layout other desk kept
   pub a_is : (ran each_one layout one desk).desk.cpu.a ≡ (ran each_one layout other desk).desk.cpu.a
+
+-- and both show by the zero flag whether that byte in A is 0
+pub record ShowAlike (layout : Layout) (one other : Tree) (desk : Desk) (kept : List Kept) : Type 0 where
+  pub alike : Alike layout one other desk kept
+  pub zero_is : (ran each_one layout one desk).desk.cpu.z ≡ (ran each_one layout other desk).desk.cpu.z
+
+-- both sides of a choice compare A with the same byte: they come to their own end, leave each byte, X, the decimal flag,
+-- A and Y, and have the same zero flag and carry behind them
+pub record CompareAlike (layout : Layout) (one other : Tree) (desk : Desk) : Type 0 where
+  pub here : Idles layout one desk (A ∷ Y ∷ [])
+  pub there : Idles layout other desk (A ∷ Y ∷ [])
+  pub zero_is : (ran each_one layout one desk).desk.cpu.z ≡ (ran each_one layout other desk).desk.cpu.z
+  pub carry_is : (ran each_one layout one desk).desk.cpu.c ≡ (ran each_one layout other desk).desk.cpu.c
 
 -- where the filter is set: A is 0 in front of each load, and what it loads is 0; and the volume is 15
 pub record FilterLoadsIdle (layout : Layout) (c : Common) (desk : Desk) : Type 0 where
@@ -89,8 +104,9 @@ pub record LeavesAll (layout : Layout) (body : Tree) (desk : Desk) (name : ℕ) 
 -- The width is 0: both sides load its low byte alike, and its high one is idle where A is 0. A row without a command:
 -- one side leaves, and the other comes to its own end, which is there too, with 0 in A where a command may run; where
 -- none may, it is idle, and what loads the 0 changes A alone. No command runs, and no vibrato of an instrument, as it
--- has no parameter: both sides leave for the same.
-pub record VoiceLoadsIdle (layout : Layout) (s : Playing) (desk : Desk) : Type 0 where
+-- has no parameter: both sides leave for the same. One first waveform stands for all instruments, and is that of the one
+-- in Y: both sides load it. So does one gateoff timer, the voice's, with which A is compared three times.
+pub record VoiceLoadsIdle (layout : Layout) (rows : ℕ) (s : Playing) (desk : Desk) : Type 0 where
   pub width_low : layout.holds PULSE_TABLE ≡ true → s.voice.pulse % 256 ≡ 0 →
       Alike layout (part PULSE_TABLE 0 REGISTERS.now) (part PULSE_TABLE 1 REGISTERS.now) desk (Y ∷ Carry ∷ [])
   pub width_high : layout.holds PULSE_TABLE ≡ true → s.voice.pulse / 256 ≡ 0 → desk.cpu.a ≡ 0 →
@@ -105,11 +121,20 @@ pub record VoiceLoadsIdle (layout : Layout) (s : Playing) (desk : Desk) : Type 0
       (layout.holds INSTRUMENT_VIBRATO ≡ true → s.voice.param ≡ 0) →
       LeavesAll layout (part EFFECTS 0 EFFECT_BEGUN.now) desk EFFECTED
   pub none_ends : LeavesAll layout (part EFFECTS 1 EFFECT_BEGUN.now) desk EFFECTED
+  pub first_wave : (wave : ℕ) → IsListed layout rows desk.at FIRST_WAVES desk.cpu.y wave →
+      IsAlone layout rows desk.at ONE_WAVE wave →
+      ShowAlike layout (part OWN_WAVE 0 NOTE_BEGUN.now) (part OWN_WAVE 1 NOTE_BEGUN.now) desk (Y ∷ Carry ∷ [])
+  pub awaited : layout.holds OWN_TIMER ≡ true → IsAlone layout rows desk.at ONE_TIMER s.voice.gate_timer →
+      CompareAlike layout (part OWN_TIMER 0 ROW_AWAITED.now) (part OWN_TIMER 1 ROW_AWAITED.now) desk
+  pub reached : layout.holds OWN_TIMER ≡ true → IsAlone layout rows desk.at ONE_TIMER s.voice.gate_timer →
+      CompareAlike layout (part OWN_TIMER 0 ROW_REACHED.now) (part OWN_TIMER 1 ROW_REACHED.now) desk
+  pub first_reached : layout.holds OWN_TIMER ≡ true → IsAlone layout rows desk.at ONE_TIMER s.voice.gate_timer →
+      CompareAlike layout (part OWN_TIMER 0 FIRST_REACHED.now) (part OWN_TIMER 1 FIRST_REACHED.now) desk
 
 abbrev pub VoiceLoads : Type 0
 VoiceLoads =
     (layout : Layout) (rows voice : ℕ) (s : Playing) (desk : Desk) → HoldsVoice layout rows voice s desk →
-    VoiceLoadsIdle layout s desk
+    VoiceLoadsIdle layout rows s desk
 
 -- ---- stores
 
@@ -158,9 +183,11 @@ LeaveSame layout stored one other desk =
 abbrev pub NOTE_STORES : List Operand
 NOTE_STORES = Own WAVE_TIME ∷ Own COMMAND ∷ Own PARAM ∷ []
 
--- a note begins, and a command 8 begins a wave program; a number sets the frequency; an entry is read; a row's command
+-- a gateoff timer is set; a note begins, and a command 8 begins a wave program; a number sets the frequency; an entry is read; a row's command
 -- is taken; and a subtune begins
 pub record StoresIdle : Type 0 where
+  pub timer : StoresBy (Entry GATE_TIMERS) (Own GATE_TIMER ∷ []) (part OWN_TIMER 0 GATE_TIMER_SET.now)
+      (Y ∷ Carry ∷ [])
   pub note_time : Stores (Own WAVE_TIME ∷ []) (part WAVE_DELAY 0 NOTE_BEGUN.now) (A ∷ Y ∷ Carry ∷ [])
   pub other_time : Stores (Own WAVE_TIME ∷ []) (part WAVE_DELAY 1 NOTE_BEGUN.now) (Y ∷ Carry ∷ [])
   pub note_command : StoresBy (Entry VIBRATOS) NOTE_STORES (part EFFECTS 0 NOTE_BEGUN.now) (Y ∷ Carry ∷ [])

@@ -21,12 +21,14 @@ use Rattle.player_memory.specs.declared.conditions.TheConstants.{WAVE_DELAY}
 use Rattle.player_memory.specs.declared.conditions.TheConstants.{GATE_NOTE, NOTE_VIBRATO, VIBRATO_DELAY, NOTE_PULSE}
 use Rattle.player_memory.specs.declared.conditions.TheConstants.{NOTE_FILTER}
 use Rattle.player_memory.specs.declared.conditions.TheConstants.{VOICE_TEMPO, COMMON_TEMPO, FUNK_TURNS, FUNK_CHOICE}
+use Rattle.player_memory.specs.declared.conditions.TheConstants.{OWN_TIMER, OWN_WAVE}
 use Rattle.player_memory.specs.declared.conditions.TheConstants.{EFFECTS, FILTER_USED}
 use Rattle.player_text.specs.declared.commands.TheConstants.{AD_SET, CUTOFF_SET, FILTER_CONTROL_SET}
 use Rattle.player_text.specs.declared.commands.TheConstants.{FILTER_POINTER_SET, FUNK_CHOSEN}
 use Rattle.player_text.specs.declared.commands.TheConstants.{FUNK_SET, PULSE_POINTER_SET, SR_SET, TEMPO_SET, VOLUME_SET}
 use Rattle.player_text.specs.declared.commands.TheConstants.{WAVE_POINTER_SET, WAVE_SET}
 use Rattle.player_text.specs.declared.effect.TheConstants.{EFFECT_BEGUN}
+use Rattle.player_text.specs.declared.fetch.TheConstants.{ROW_AWAITED, ROW_REACHED, FIRST_REACHED}
 use Rattle.player_text.specs.declared.fetch.TheConstants.{ENTRY_BEGUN, ENTRY_READ, GATE_CLOSED}
 use Rattle.player_text.specs.declared.filter.TheConstants.{FILTER_STEP, FILTER_REGISTERS}
 use Rattle.player_text.specs.declared.pitch.TheConstants.{PITCH, GIVEN_BACK}
@@ -35,7 +37,8 @@ use Rattle.player_text.specs.declared.init.TheConstants.{VARIABLES_CLEARED, FUNK
 use Rattle.player_text.specs.declared.register.TheConstants.{REGISTERS}
 use Rattle.player_text.specs.declared.slide.TheConstants.{CLIMB_STEP, DROP_STEP, FOUND_STEP, PORTA_STEP, RISE_STEP}
 use Rattle.player_text.specs.declared.slide.TheConstants.{SINK_STEP, SPEED_STEP, SWING_STEP, TONE_STEP}
-use Rattle.player_text.specs.declared.tick.TheConstants.{FRAME_COUNTED, NOTE_TAKEN, NOTE_BEGUN, PROGRAMS_BEGUN}
+use Rattle.player_text.specs.declared.tick.TheConstants.{FRAME_COUNTED, GATE_TIMER_SET, NOTE_TAKEN, NOTE_BEGUN}
+use Rattle.player_text.specs.declared.tick.TheConstants.{PROGRAMS_BEGUN}
 use Rattle.player_text.specs.declared.tick.TheConstants.{COMMAND_BEGUN, COMMAND_TAKEN}
 use Rattle.player_text.specs.declared.walk.TheConstants.{ORDER_WALKED, PLAY_REPEATED}
 use Rattle.player_text.specs.declared.wave.TheConstants.{WAVE_STEP}
@@ -116,6 +119,11 @@ pub record PartsAreThese : Type 0 where
   pub common_tempo : bodies COMMON_TEMPO voice_tree ≡ part COMMON_TEMPO 0 TEMPO_SET.now ∷ []
   pub turns : bodies FUNK_TURNS voice_tree ≡ part FUNK_TURNS 0 FUNK_SET.now ∷ []
   pub choice : bodies FUNK_CHOICE voice_tree ≡ part FUNK_CHOICE 0 FUNK_CHOSEN.now ∷ []
+  pub own_timer : bodies OWN_TIMER voice_tree
+      ≡ part OWN_TIMER 0 GATE_TIMER_SET.now ∷ part OWN_TIMER 0 ROW_AWAITED.now ∷ part OWN_TIMER 1 ROW_AWAITED.now
+      ∷ part OWN_TIMER 0 ROW_REACHED.now ∷ part OWN_TIMER 1 ROW_REACHED.now ∷ part OWN_TIMER 0 FIRST_REACHED.now
+      ∷ part OWN_TIMER 1 FIRST_REACHED.now ∷ []
+  pub own_wave : bodies OWN_WAVE voice_tree ≡ part OWN_WAVE 0 NOTE_BEGUN.now ∷ part OWN_WAVE 1 NOTE_BEGUN.now ∷ []
   pub effects : bodies EFFECTS voice_tree
       ≡ part EFFECTS 0 NOTE_BEGUN.now ∷ part EFFECTS 1 NOTE_BEGUN.now ∷ part EFFECTS 0 COMMAND_BEGUN.now
       ∷ part EFFECTS 1 COMMAND_BEGUN.now ∷ part EFFECTS 2 COMMAND_BEGUN.now ∷ part EFFECTS 0 EFFECT_BEGUN.now

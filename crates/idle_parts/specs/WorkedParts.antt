@@ -1,5 +1,5 @@
 -- Where parts don't do nothing, worked by hand.
-use Rattle.std.specs.Prelude.{◌≡◌, ◌≢◌, ℕ, ◌+◌, ◌%◌, ◌≤◌, ◌==◌, not, true, false, [], ◌∷◌}
+use Rattle.std.specs.Prelude.{◌≡◌, ◌≢◌, ℕ, ◌+◌, ◌%◌, ◌≤◌, ◌==◌, if◌then◌else◌, not, true, false, [], ◌∷◌}
 use Rattle.cpu6502.specs.declared.mnemonic.Mnemonic.TheVariants.{Dex, Inc, Lda, Sta}
 use Rattle.scopes.specs.declared.line.Operand.TheVariants.{Own, Var}
 use Rattle.play_model.specs.State.{Playing}
@@ -17,10 +17,10 @@ use Rattle.player_memory.specs.declared.conditions.TheConstants.{WAVE_DELAY, SWI
 use Rattle.player_memory.specs.declared.conditions.TheConstants.{HELD_NOTE, NOTE_VIBRATO, VIBRATO_DELAY, NOTE_PULSE}
 use Rattle.player_memory.specs.declared.conditions.TheConstants.{NOTE_FILTER}
 use Rattle.player_memory.specs.declared.conditions.TheConstants.{VOICE_TEMPO, COMMON_TEMPO, FUNK_TURNS, FUNK_CHOICE}
-use Rattle.player_memory.specs.declared.conditions.TheConstants.{SKIP_FIRST}
+use Rattle.player_memory.specs.declared.conditions.TheConstants.{SKIP_FIRST, OWN_TIMER, OWN_WAVE}
 use Rattle.player_memory.specs.declared.labels.TheConstants.{AD, NEW_COMMAND, PULSE_TIME, FILTER_TIME, GATE_TIMERS}
 use Rattle.player_memory.specs.declared.labels.TheConstants.{DELAYS, VIBRATOS, PULSES, FILTERS, VIB_TIME, WAVE_TIME}
-use Rattle.player_memory.specs.declared.labels.TheConstants.{COMMAND, NEW_PARAM, PARAM, KEPT_PARAM}
+use Rattle.player_memory.specs.declared.labels.TheConstants.{COMMAND, NEW_PARAM, PARAM, KEPT_PARAM, ONE_TIMER, ONE_WAVE}
 use Rattle.player_memory.specs.Playing.{IsListed, own_at, shared_at}
 use Rattle.player_text.specs.declared.commands.TheConstants.{AD_SET, TEMPO_SET, FUNK_SET, FUNK_CHOSEN}
 use Rattle.player_text.specs.declared.slide.TheConstants.{PORTA_STEP, TONE_STEP}
@@ -31,13 +31,14 @@ use Rattle.player_text.specs.declared.pitch.TheConstants.{PITCH}
 use Rattle.player_text.specs.declared.filter.TheConstants.{FILTER_REGISTERS}
 use Rattle.player_text.specs.declared.register.TheConstants.{REGISTERS}
 use Rattle.player_text.specs.Texts.{voice_tree, filter_tree}
-use Rattle.player_text.specs.declared.tick.TheConstants.{NOTE_TAKEN, NOTE_BEGUN, PROGRAMS_BEGUN, COMMAND_BEGUN, BARE}
+use Rattle.player_text.specs.declared.tick.TheConstants.{GATE_TIMER_SET, NOTE_TAKEN, NOTE_BEGUN, PROGRAMS_BEGUN, COMMAND_BEGUN}
+use Rattle.player_text.specs.declared.tick.TheConstants.{BARE}
 use Rattle.player_text.specs.declared.wave.TheConstants.{WAVE_STEP}
-use Rattle.player_text.specs.declared.fetch.TheConstants.{ENTRY_BEGUN, ENTRY_READ, GATE_CLOSED}
+use Rattle.player_text.specs.declared.fetch.TheConstants.{ROW_AWAITED, ENTRY_BEGUN, ENTRY_READ, GATE_CLOSED}
 use Rattle.idle_parts.specs.Idle.{A, Y, Carry, Idles, HoldsVoice, bodies, front, part}
 use Rattle.idle_parts.specs.Fronts.{Finds}
 use Rattle.idle_parts.specs.Places.{leaves, may_end}
-use Rattle.idle_parts.specs.KeptBytes.{Alike, Clears, LeavesAll, IdlesBut, LeaveSame, NOTE_STORES, KEEPING, reads_under}
+use Rattle.idle_parts.specs.KeptBytes.{Alike, ShowAlike, CompareAlike, Clears, LeavesAll, IdlesBut, LeaveSame, NOTE_STORES, KEEPING, reads_under}
 
 -- an instruction, a leave under condition 5, and another one
 abbrev pub small : Tree
@@ -81,6 +82,10 @@ desk_with a y = record {
   };
   at = λ place. 2;
 }
+
+-- and this byte at one of them
+abbrev pub desk_but : ℕ → ℕ → ℕ → Desk
+desk_but there byte a = record (desk_with a 0) { at = λ place. if place == there then byte else 2 }
 
 pub record PartsAreWorked : Type 0 where
   -- a command that is done changes a byte, and command 1 leaves the block
@@ -172,6 +177,18 @@ pub record PartsAreWorked : Type 0 where
   pub volume : ¬ Alike flat (part SET_VOLUME 0 FILTER_REGISTERS.now) (part SET_VOLUME 1 FILTER_REGISTERS.now)
       (desk_with 0 0) []
   pub width_low : ¬ Alike flat (part PULSE_TABLE 0 REGISTERS.now) (part PULSE_TABLE 1 REGISTERS.now) (desk_with 0 0) []
+  -- a first waveform of 0 isn't 2; where the voice's timer is 2, another one tells by the zero flag for A 2, and by the
+  -- carry for A 5
+  pub first_wave : ¬ ShowAlike flat (part OWN_WAVE 0 NOTE_BEGUN.now) (part OWN_WAVE 1 NOTE_BEGUN.now)
+      (desk_but ONE_WAVE 0 0) []
+  pub same_wave : ShowAlike flat (part OWN_WAVE 0 NOTE_BEGUN.now) (part OWN_WAVE 1 NOTE_BEGUN.now)
+      (desk_but ONE_WAVE 2 0) (Y ∷ Carry ∷ [])
+  pub timer : ¬ CompareAlike flat (part OWN_TIMER 0 ROW_AWAITED.now) (part OWN_TIMER 1 ROW_AWAITED.now)
+      (desk_but ONE_TIMER 1 2)
+  pub later_timer : ¬ CompareAlike flat (part OWN_TIMER 0 ROW_AWAITED.now) (part OWN_TIMER 1 ROW_AWAITED.now)
+      (desk_but ONE_TIMER 7 5)
+  pub same_timer : CompareAlike flat (part OWN_TIMER 0 ROW_AWAITED.now) (part OWN_TIMER 1 ROW_AWAITED.now)
+      (desk_but ONE_TIMER 2 5)
   -- a row with command 2 doesn't leave as one without does
   pub bare : ¬ Clears flat (part ROW_COMMAND 0 COMMAND_BEGUN.now) (desk_with 0 0) (Left BARE)
   -- without a row's commands A is 0 only where a command may run, and that load changes it
@@ -182,6 +199,7 @@ pub record PartsAreWorked : Type 0 where
   pub runs : ¬ LeavesAll flat (part EFFECTS 0 EFFECT_BEGUN.now) (desk_with 0 0) EFFECTED
   -- a store that isn't named changes a byte, and one that is may change A
   pub stored : ¬ IdlesBut flat [] (part WAVE_DELAY 0 NOTE_BEGUN.now) (desk_with 0 0) []
+  pub stored_timer : ¬ IdlesBut flat [] (part OWN_TIMER 0 GATE_TIMER_SET.now) (desk_but GATE_TIMERS 3 0) []
   pub stored_by : ¬ IdlesBut flat (Own VIB_TIME ∷ []) (part SWINGS 0 PITCH.now) (desk_with 1 0) (A ∷ [])
   -- where a note begins both sides store the time of a delay, and change A; but the first one stores the command and
   -- its parameter, too

@@ -10,7 +10,7 @@ use Rattle.scope_lines.specs.Reach.{nothing_around, has_lines}
 use Rattle.scope_lines.specs.Readings.{is_block}
 use Rattle.scope_lines.specs.Known.{nothing, the_a, the_x, shown, either, known}
 use Rattle.scope_lines.specs.Homes.{uses_only}
-use Rattle.player_memory.specs.declared.labels.TheConstants.{VARIABLES, FREQUENCY_LOWS, PATTERNS_HIGH, SLIDES_LOW}
+use Rattle.player_memory.specs.declared.labels.TheConstants.{VARIABLES, FREQUENCY_LOWS, ONE_WAVE, SLIDES_LOW}
 use Rattle.player_memory.specs.declared.labels.TheConstants.{SLIDES_HIGH, FILTER_LEFTS, NEXT_FILTER_LEFTS}
 use Rattle.player_memory.specs.declared.labels.TheConstants.{FILTER_RIGHTS, ORDERS_LOW, ORDERS_HIGH}
 use Rattle.player_memory.specs.Labels.{is_shared}
@@ -53,7 +53,7 @@ abbrev pub is_variable : ℕ → Bool
 is_variable label = nat_lt label VARIABLES
 
 abbrev pub is_list : ℕ → Bool
-is_list label = nat_le FREQUENCY_LOWS label && nat_le label PATTERNS_HIGH || label == SLIDES_LOW || label == SLIDES_HIGH
+is_list label = nat_le FREQUENCY_LOWS label && nat_le label ONE_WAVE || label == SLIDES_LOW || label == SLIDES_HIGH
 
 abbrev pub is_filter_list : ℕ → Bool
 is_filter_list label = label == FILTER_LEFTS || label == NEXT_FILTER_LEFTS || label == FILTER_RIGHTS
@@ -83,5 +83,5 @@ pub record Measures (lines : List Line) (count bare full heavy : ℕ) : Type 0 w
 -- of a voice the walk alone has 4,340 instructions, in 255 turns, and the halves of a half tone 64, in 16
 pub record AreMeasured : Type 0 where
   pub filter : Measures filter_lines 66 16 102 40
-  pub voice : Measures voice_lines 967 314 1336 4931
+  pub voice : Measures voice_lines 985 306 1336 4931
   pub init : (start : Start) (variables : ℕ) → Measures (init_lines start variables) 57 64 90 487

@@ -4,12 +4,12 @@ use crate::joints::{BEGINS, FETCHES, FIRST, LATE, PULSED, SOUNDS, WALKS};
 use crate::pieces::pieces;
 use crate::walk::{ORDER_WALKED, PATTERN_BEGUN, PATTERN_FOUND, PLAY_REPEATED};
 use player_memory::conditions::{
-    GATE_NOTE, HELD_NOTE, LEGATO, NO_HARD_RESTART, ROW_COMMAND, ROW_TONE, SKIP_FIRST, SKIP_PULSE,
-    TRANSPOSES,
+    GATE_NOTE, HELD_NOTE, LEGATO, NO_HARD_RESTART, OWN_TIMER, ROW_COMMAND, ROW_TONE, SKIP_FIRST,
+    SKIP_PULSE, TRANSPOSES,
 };
 use player_memory::labels::{
     AD, GATE, GATE_TIMER, GATE_TIMERS, INSTRUMENT, KEPT_PARAM, NEW_COMMAND, NEW_NOTE, NEW_PARAM,
-    OFFSET, PATTERN_HIGH, PATTERN_LOW, REST, SR, TICK, TRANSPOSE,
+    OFFSET, ONE_TIMER, PATTERN_HIGH, PATTERN_LOW, REST, SR, TICK, TRANSPOSE,
 };
 use scopes::{Line, text};
 
@@ -42,7 +42,7 @@ pub const LATER: u8 = 10;
 pub const ROW_AWAITED: &[Line] = text! {
     scope DUE {
         Lda Own TICK;
-        Cmp Own GATE_TIMER;
+        choose OWN_TIMER { Cmp Own GATE_TIMER; } or { Cmp Var ONE_TIMER; } // Both alike in a song without it; keeps A and Y.
         leave DUE on Zero;
         jump PULSED on Carry;
         Ldy Own OFFSET;
@@ -66,7 +66,7 @@ pub const ROW_AWAITED: &[Line] = text! {
 pub const ROW_REACHED: &[Line] = text! {
     Lda Own TICK;
     when SKIP_FIRST { leave FIRST on Zero; }
-    Cmp Own GATE_TIMER;
+    choose OWN_TIMER { Cmp Own GATE_TIMER; } or { Cmp Var ONE_TIMER; } // Both alike in a song without it; keeps A and Y.
     leave FETCHES on Zero;
     leave PULSED;
 };
@@ -75,7 +75,7 @@ pub const ROW_REACHED: &[Line] = text! {
 /// of the row before, and else `SOUNDS`: the option leaves the pulse step out.
 pub const FIRST_REACHED: &[Line] = text! {
     when SKIP_FIRST { // A and the tick are 0, Y and the offset are 1.
-        Cmp Own GATE_TIMER;
+        choose OWN_TIMER { Cmp Own GATE_TIMER; } or { Cmp Var ONE_TIMER; } // Both alike in a song without it; keeps A and Y.
         leave FETCHES on Zero;
         Lda Own REST;
         jump PULSED off Zero;

@@ -7,12 +7,12 @@ use crate::commands::{
 use crate::joints::{DONE, SOUNDS, TAKEN, TICKED};
 use crate::pieces::pieces;
 use player_memory::conditions::{
-    EFFECTS, FIRST_MASK, FUNK_TEMPO, NOTE_FILTER, NOTE_PULSE, NOTE_VIBRATO, ROW_COMMAND, ROW_ONCE,
-    ROW_SLIDE, ROW_TONE, SWINGS, VIBRATO_DELAY, WAVE_DELAY,
+    EFFECTS, FIRST_MASK, FUNK_TEMPO, NOTE_FILTER, NOTE_PULSE, NOTE_VIBRATO, OWN_TIMER, OWN_WAVE,
+    ROW_COMMAND, ROW_ONCE, ROW_SLIDE, ROW_TONE, SWINGS, VIBRATO_DELAY, WAVE_DELAY,
 };
 use player_memory::labels::{
     AD, ADS, COMMAND, DELAYS, FILTER_POINTER, FILTER_TIME, FILTERS, FIRST_WAVES, FUNK_ONE, GATE,
-    GATE_TIMER, GATE_TIMERS, INSTRUMENT, NEW_COMMAND, NEW_NOTE, NEW_PARAM, NOTE, PARAM,
+    GATE_TIMER, GATE_TIMERS, INSTRUMENT, NEW_COMMAND, NEW_NOTE, NEW_PARAM, NOTE, ONE_WAVE, PARAM,
     PULSE_POINTER, PULSE_TIME, PULSES, SR, SRS, TEMPO, TICK, VIB_DELAY, VIB_TIME, VIBRATOS, WAVE,
     WAVE_POINTER, WAVE_TIME, WAVES,
 };
@@ -67,12 +67,14 @@ pub const FRAME_COUNTED: &[Line] = text! {
     }
 };
 
-/// Sets the gateoff timer. Y is the instrument behind it.
+/// Sets the gateoff timer, where instruments differ in it. Y is the instrument behind it.
 pub const GATE_TIMER_SET: &[Line] = text! {
     Ldy Own INSTRUMENT;
-    Lda Entry GATE_TIMERS;
-    And Number 0x3F;
-    Sta Own GATE_TIMER;
+    when OWN_TIMER { // Stores GATE_TIMER, which nothing reads without it; keeps Y.
+        Lda Entry GATE_TIMERS;
+        And Number 0x3F;
+        Sta Own GATE_TIMER;
+    }
 };
 
 /// Takes the note that waits. Leaves `TAKEN` where none does, and where a slide goes to it; ends where the note begins.
@@ -114,7 +116,7 @@ pub const NOTE_BEGUN: &[Line] = text! {
     }
     scope MASKED {
         scope MASK {
-            Lda Entry FIRST_WAVES;
+            choose OWN_WAVE { Lda Entry FIRST_WAVES; } or { Lda Var ONE_WAVE; } // Both alike in a song without it; keeps Y.
             when FIRST_MASK { // Idle where A isn't 0 and is below $FE; keeps A and Y.
                 leave MASKED on Zero;
                 Cmp Number 0xFE;

@@ -2,7 +2,7 @@
 
 -- each place is one of those that are counted, and these are no more than variables
 pub use Rattle.variable_places.proofs.Within.{places_are_within, counts_are_few}
--- where more conditions hold there are no fewer, and 62 are there always
+-- where more conditions hold there are no fewer, and 61 are there always
 pub use Rattle.variable_places.proofs.Rising.{counts_rise, counts_are_no_fewer}
 -- no two variables that have a byte have the same place
 pub use Rattle.variable_places.proofs.Apart.{places_are_apart}

@@ -103,8 +103,8 @@ counts_rise one two more =
       | inr none ↦ rw (counts_none one none) (omega (arith, front, all))
     ]
 
--- and there are 62 where none holds
-fewest : variable_count (λ condition. false) ≡ 62
+-- and there are 61 where none holds
+fewest : variable_count (λ condition. false) ≡ 61
 unfolding voice_rows shared_rows asks has_byte voice_labels other_labels free_places funk_place variable_count
 fewest = refl
 

@@ -24,7 +24,7 @@ CountsRise =
 
 -- so there are as many always as where none holds
 abbrev pub CountsAreNoFewer : Type 0
-CountsAreNoFewer = (holds : ℕ → Bool) → 62 ≤ variable_count holds
+CountsAreNoFewer = (holds : ℕ → Bool) → 61 ≤ variable_count holds
 
 -- no two variables that have a byte have the same place
 abbrev pub PlacesAreApart : Type 0

@@ -6,11 +6,12 @@ use Rattle.player_memory.specs.declared.labels.TheConstants.{AD, VIB_DELAY, WAVE
 use Rattle.player_memory.specs.declared.labels.TheConstants.{TEMPO_TWO, TEMPO_THREE, FILTER_POINTER, FILTER_TIME}
 use Rattle.player_memory.specs.declared.labels.TheConstants.{FILTER_TYPE, FILTER_CONTROL, CUTOFF, VOLUME, LENT}
 use Rattle.player_memory.specs.declared.labels.TheConstants.{KEPT_COMMAND, KEPT_PARAM, FUNK_ONE, FUNK_TWO, VARIABLES}
-use Rattle.player_memory.specs.declared.labels.TheConstants.{WAVE_LEFTS}
+use Rattle.player_memory.specs.declared.labels.TheConstants.{WAVE_LEFTS, GATE_TIMER, INSTRUMENT}
 use Rattle.player_memory.specs.declared.conditions.TheConstants.{TRANSPOSES, REPEATS, PULSE_TABLE, FILTER_TABLE}
 use Rattle.player_memory.specs.declared.conditions.TheConstants.{SET_FILTER_CONTROL, SET_VOLUME, FUNK_TEMPO}
 use Rattle.player_memory.specs.declared.conditions.TheConstants.{FUNK_CHOICE, WAVE_COMMAND, SKIP_FIRST, ROW_TONE}
 use Rattle.player_memory.specs.declared.conditions.TheConstants.{ROW_ONCE, ROW_COMMAND, VIBRATO_DELAY, NOTE_PULSE}
+use Rattle.player_memory.specs.declared.conditions.TheConstants.{OWN_TIMER}
 use Rattle.player_text.specs.Texts.{voice_tree}
 use Rattle.variable_places.specs.Places.{asked_in, voice_of, base_of, asks, has_byte, standing, position_in}
 use Rattle.variable_places.specs.Places.{field_count, other_labels, other_count, own_place, field_at, free_places}
@@ -68,16 +69,16 @@ abbrev pub only : List ℕ → ℕ → Bool
 only conditions = is_one_of conditions
 
 pub record BytesAreWorked : Type 0 where
-  pub fewest : (field_count none_holds ≡ 20) × (other_count none_holds ≡ 0)
+  pub fewest : (field_count none_holds ≡ 19) × (other_count none_holds ≡ 0)
   pub most : (field_count each_holds ≡ 34) × (other_count each_holds ≡ 9)
-  pub pulse : (field_count (only (PULSE_TABLE ∷ [])) ≡ 24) × (other_count (only (PULSE_TABLE ∷ [])) ≡ 0)
-  pub filter : (field_count (only (FILTER_TABLE ∷ [])) ≡ 20)
+  pub pulse : (field_count (only (PULSE_TABLE ∷ [])) ≡ 23) × (other_count (only (PULSE_TABLE ∷ [])) ≡ 0)
+  pub filter : (field_count (only (FILTER_TABLE ∷ [])) ≡ 19)
       × (other_labels (only (FILTER_TABLE ∷ []))
       ≡ FILTER_POINTER ∷ FILTER_TIME ∷ FILTER_TYPE ∷ FILTER_CONTROL ∷ CUTOFF ∷ [])
-  pub lent : (field_count (only (WAVE_COMMAND ∷ [])) ≡ 22)
+  pub lent : (field_count (only (WAVE_COMMAND ∷ [])) ≡ 21)
       × (other_labels (only (WAVE_COMMAND ∷ [])) ≡ LENT ∷ KEPT_COMMAND ∷ KEPT_PARAM ∷ [])
   -- the funk tempos are none of the others
-  pub funk : (field_count (only (FUNK_TEMPO ∷ [])) ≡ 20) × (other_count (only (FUNK_TEMPO ∷ [])) ≡ 0)
+  pub funk : (field_count (only (FUNK_TEMPO ∷ [])) ≡ 19) × (other_count (only (FUNK_TEMPO ∷ [])) ≡ 0)
   -- by each of its conditions alone, by no other, and by none
   pub by_one : has_byte (only (ROW_COMMAND ∷ [])) NEW_COMMAND ≡ true
   pub by_two : has_byte (only (ROW_TONE ∷ [])) NEW_COMMAND ≡ true
@@ -85,6 +86,7 @@ pub record BytesAreWorked : Type 0 where
   pub its_own : has_byte (only (ROW_ONCE ∷ [])) NEW_PARAM ≡ true
   pub by_none : has_byte none_holds NEW_COMMAND ≡ false
   pub always : has_byte none_holds AD ≡ true
+  pub timer : (has_byte (only (OWN_TIMER ∷ [])) GATE_TIMER ≡ true) × (has_byte none_holds GATE_TIMER ≡ false)
   pub remembers : has_byte (only (SKIP_FIRST ∷ [])) KEPT_PARAM ≡ true
   pub no_lent : has_byte (only (SKIP_FIRST ∷ [])) LENT ≡ false
   pub second : has_byte (only (VIBRATO_DELAY ∷ [])) (VIB_DELAY + 7) ≡ true
@@ -101,19 +103,21 @@ pub record BytesAreWorked : Type 0 where
   pub list : (asks WAVE_LEFTS ≡ []) × (asks VARIABLES ≡ [])
 
 pub record CountsAreWorked : Type 0 where
-  pub fewest : variable_count none_holds ≡ 62
+  pub fewest : variable_count none_holds ≡ 61
   pub most : variable_count each_holds ≡ 113
-  pub pulse : variable_count (only (PULSE_TABLE ∷ [])) ≡ 80
-  pub transposes : variable_count (only (TRANSPOSES ∷ [])) ≡ 63
-  pub both : variable_count (only (TRANSPOSES ∷ REPEATS ∷ [])) ≡ 78
-  -- a byte in a hole counts for nothing, and the third one stands behind the voices
-  pub volume : variable_count (only (SET_VOLUME ∷ [])) ≡ 62
-  pub control : variable_count (only (SET_FILTER_CONTROL ∷ [])) ≡ 62
-  pub three : variable_count (only (SET_FILTER_CONTROL ∷ SET_VOLUME ∷ [])) ≡ 63
-  pub lent : variable_count (only (WAVE_COMMAND ∷ [])) ≡ 78
+  pub pulse : variable_count (only (PULSE_TABLE ∷ [])) ≡ 79
+  pub transposes : variable_count (only (TRANSPOSES ∷ [])) ≡ 62
+  pub both : variable_count (only (TRANSPOSES ∷ REPEATS ∷ [])) ≡ 63
+  pub next_group : variable_count (only (TRANSPOSES ∷ REPEATS ∷ OWN_TIMER ∷ [])) ≡ 78
+  -- a byte in a hole counts for nothing, and the fifth one stands behind the voices
+  pub volume : variable_count (only (SET_VOLUME ∷ [])) ≡ 61
+  pub control : variable_count (only (SET_FILTER_CONTROL ∷ [])) ≡ 61
+  pub three : variable_count (only (SET_FILTER_CONTROL ∷ SET_VOLUME ∷ [])) ≡ 61
+  pub five : variable_count (only (FILTER_TABLE ∷ [])) ≡ 62
+  pub lent : variable_count (only (WAVE_COMMAND ∷ [])) ≡ 66
   -- the funk tempos stand behind, also where there are holes
-  pub funk : variable_count (only (FUNK_TEMPO ∷ [])) ≡ 64
-  pub pulse_funk : variable_count (only (PULSE_TABLE ∷ FUNK_CHOICE ∷ [])) ≡ 82
+  pub funk : variable_count (only (FUNK_TEMPO ∷ [])) ≡ 63
+  pub pulse_funk : variable_count (only (PULSE_TABLE ∷ FUNK_CHOICE ∷ [])) ≡ 81
 
 pub record PlacesAreWorked : Type 0 where
   -- the voices' bytes close up: without transposes and repeats the tick is the eighth
@@ -121,17 +125,19 @@ pub record PlacesAreWorked : Type 0 where
       × (place_of (only (TRANSPOSES ∷ REPEATS ∷ [])) TICK ≡ 23)
   pub repeat : (place_of (only (REPEATS ∷ [])) REPEAT ≡ 21) × (place_of each_holds REPEAT ≡ 22)
   pub voices : (place_of none_holds (TICK + 7) ≡ 28) × (place_of none_holds (TICK + 14) ≡ 35)
-  pub tempos : (place_of none_holds TEMPO ≡ 47) × (place_of none_holds TEMPO_TWO ≡ 54)
-      × (place_of none_holds TEMPO_THREE ≡ 61)
-  pub pulse : (place_of (only (PULSE_TABLE ∷ [])) PULSE_LOW ≡ 63) × (place_of (only (PULSE_TABLE ∷ [])) TEMPO ≡ 65)
-  -- those of all voices fill what is left of the last group
-  pub volume : place_of (only (SET_VOLUME ∷ [])) VOLUME ≡ 48
-  pub behind : place_of (only (SET_FILTER_CONTROL ∷ SET_VOLUME ∷ [])) VOLUME ≡ 62
-  pub filter : (place_of (only (FILTER_TABLE ∷ [])) FILTER_POINTER ≡ 48)
-      × (place_of (only (FILTER_TABLE ∷ [])) FILTER_TIME ≡ 55) × (place_of (only (FILTER_TABLE ∷ [])) FILTER_TYPE ≡ 62)
-      × (place_of (only (FILTER_TABLE ∷ [])) CUTOFF ≡ 64)
-  pub lent : (place_of (only (WAVE_COMMAND ∷ [])) LENT ≡ 64) × (place_of (only (WAVE_COMMAND ∷ [])) KEPT_PARAM ≡ 66)
-  pub funk : (place_of (only (FUNK_TEMPO ∷ [])) FUNK_ONE ≡ 62) × (place_of (only (FUNK_TEMPO ∷ [])) FUNK_TWO ≡ 63)
+  pub tempos : (place_of none_holds TEMPO ≡ 46) × (place_of none_holds TEMPO_TWO ≡ 53)
+      × (place_of none_holds TEMPO_THREE ≡ 60)
+  pub timer : (place_of (only (OWN_TIMER ∷ [])) GATE_TIMER ≡ 22) × (place_of (only (OWN_TIMER ∷ [])) INSTRUMENT ≡ 23)
+      × (place_of none_holds INSTRUMENT ≡ 22)
+  pub pulse : (place_of (only (PULSE_TABLE ∷ [])) PULSE_LOW ≡ 48) × (place_of (only (PULSE_TABLE ∷ [])) TEMPO ≡ 64)
+  -- those of all voices fill what is left of the last group, and the fifth stands behind it
+  pub volume : place_of (only (SET_VOLUME ∷ [])) VOLUME ≡ 47
+  pub third : place_of (only (SET_FILTER_CONTROL ∷ SET_VOLUME ∷ [])) VOLUME ≡ 54
+  pub filter : (place_of (only (FILTER_TABLE ∷ [])) FILTER_POINTER ≡ 47)
+      × (place_of (only (FILTER_TABLE ∷ [])) FILTER_TIME ≡ 48) × (place_of (only (FILTER_TABLE ∷ [])) FILTER_TYPE ≡ 54)
+      × (place_of (only (FILTER_TABLE ∷ [])) CUTOFF ≡ 61)
+  pub lent : (place_of (only (WAVE_COMMAND ∷ [])) LENT ≡ 63) × (place_of (only (WAVE_COMMAND ∷ [])) KEPT_PARAM ≡ 65)
+  pub funk : (place_of (only (FUNK_TEMPO ∷ [])) FUNK_ONE ≡ 61) × (place_of (only (FUNK_TEMPO ∷ [])) FUNK_TWO ≡ 62)
   -- where all have a byte they stand at the numbers of their labels
   pub same : (place_of each_holds PARAM ≡ PARAM) × (place_of each_holds (WAVE + 14) ≡ WAVE + 14)
       × (place_of each_holds FILTER_POINTER ≡ FILTER_POINTER) × (place_of each_holds FILTER_TIME ≡ FILTER_TIME)

@@ -14,7 +14,7 @@ pub fn places_are_apart()
     ensures apart { PlacesAreApart }
 {}
 
-/// Where more conditions hold there are no fewer places; and there are 62 at least.
+/// Where more conditions hold there are no fewer places; and there are 61 at least.
 #[tactic(auto, using(crate::proofs::Rising::counts_rise, crate::proofs::Rising::counts_are_no_fewer))]
 pub fn counts_rise()
     ensures rise { CountsRise }
