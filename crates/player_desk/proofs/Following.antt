@@ -29,10 +29,15 @@ pub fits_on : (b : Bool) (P Q : Type 0) → (P → Q) → Fits b P → Fits b Q
 fits_on true P Q follows p = follows p
 fits_on false P Q follows never = elim never [ ]
 
+either_on : (z : Bool) (P Q R S : Type 0) → (P → R) → (Q → S) → Either z P Q → Either z R S
+either_on true P Q R S one two p = one p
+either_on false P Q R S one two p = two p
+
 pub seen_on : (voiced : Bool) (r : Reader) (operand : Operand) (P Q : ℕ → Type 0) (d : VoiceDesk) →
     ((n : ℕ) → P n → Q n) → SeenLeads voiced r operand P d → SeenLeads voiced r operand Q d
 seen_on voiced r (Number number) P Q d follows p = follows number p
-seen_on voiced r (Var label) P Q d follows p = fits_on (is_shared label) _ _ (follows _) p
+seen_on voiced r (Var label) P Q d follows p =
+    either_on (is_shared label) _ _ _ _ (follows _) (λ found. (found.0, follows _ found.1)) p
 seen_on voiced r (Own label) P Q d follows p = fits_on (voiced && is_own label) _ _ (follows _) p
 seen_on voiced r (Entry label) P Q d follows (Listed found p) = Listed found (follows _ p)
 seen_on voiced r (Entry label) P Q d follows (OfAll other all is p) = OfAll other all is (follows _ p)
@@ -98,10 +103,6 @@ quiet_on : (result : Option Effect) (P Q : VoiceDesk → Type 0) (d : VoiceDesk)
     QuietLeads result P d → QuietLeads result Q d
 quiet_on None P Q d follows never = elim never [ ]
 quiet_on (Some done) P Q d follows p = follows _ p
-
-either_on : (z : Bool) (P Q R S : Type 0) → (P → R) → (Q → S) → Either z P Q → Either z R S
-either_on true P Q R S one two p = one p
-either_on false P Q R S one two p = two p
 
 pub turns_on : (Body : Ways → VoiceDesk → Type 0) →
     ((one two : Ways) (d : VoiceDesk) → Follows one two → Body one d → Body two d) → (count : ℕ) (one two : Ways)

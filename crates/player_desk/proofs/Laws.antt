@@ -17,11 +17,12 @@ pub use Rattle.player_desk.proofs.Leading.{At, Led, led}
 pub use Rattle.player_desk.proofs.Views.{Fields, Shared, fields_of, fields_stand, shared_of, shared_stand}
 pub use Rattle.player_desk.proofs.Views.{Lent, LentStands, SameSong, Done, own_done, done_over, done_by}
 -- bytes that are found where the code reads them
-pub use Rattle.player_desk.proofs.Reading.{Reads, listed, place_at, compared_is, over_is}
+pub use Rattle.player_desk.proofs.Reading.{Reads, listed, alone, place_at, compared_is, over_is}
 -- what of a voice's desk stands while its own bytes change, and a byte that the pointer finds
 pub use Rattle.player_desk.proofs.Arounds.{Around, around_on, at_pointer}
 -- a voice in memory, and what a block leaves there
-pub use Rattle.player_desk.proofs.Memory.{IsFound, reader_of, voice_desk, lent_of, finds, begins, plays}
+pub use Rattle.player_desk.proofs.Memory.{IsFound, reader_of, voice_desk, lent_of, finds, finds_alone, begins}
+pub use Rattle.player_desk.proofs.Memory.{plays}
 pub use Rattle.player_desk.proofs.Memory.{but_slides_so, plays_so}
 pub use Rattle.player_desk.proofs.Memory.{is_playing, song_stays, others_stay, all_slides_stay}
 pub use Rattle.player_desk.proofs.SlidesStay.{leaves_slides, SameSlides}

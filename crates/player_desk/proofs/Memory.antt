@@ -20,7 +20,7 @@ use Rattle.player_memory.specs.declared.labels.TheConstants.{SLIDES_LOW, SLIDES_
 use Rattle.player_memory.specs.declared.variables.TheConstants.{SONG_BYTES}
 use Rattle.player_memory.specs.Labels.{is_own, is_shared}
 use Rattle.player_memory.specs.Rooms.{IsRoom, IsElsewhere, MayUse}
-use Rattle.player_memory.specs.Playing.{own_at, shared_at, IsListed, IsPlaying, IsAtVoice, AreSame, Plays}
+use Rattle.player_memory.specs.Playing.{own_at, shared_at, IsListed, IsAlone, IsPlaying, IsAtVoice, AreSame, Plays}
 use Rattle.player_memory.specs.Playing.{PlaysButSlides, AllSlidesStay, OthersStay}
 use Rattle.player_desk.proofs.VoiceDesks.{VoiceDesk, Reader, Leads}
 use Rattle.player_desk.proofs.Spots.{Own, Shared as SharedSpot, Sid, Tempo, Others, Elsewhere, LowSpot, HighSpot}
@@ -116,6 +116,13 @@ pub finds : (layout : Layout) (rows voice : ℕ) (desk : Desk) (label number byt
 finds layout rows voice desk label number byte listed =
     record { found = record { elsewhere = listed.elsewhere; reads = listed.reads }; is = listed.is }
 
+-- and so is one that stands alone
+pub finds_alone : (layout : Layout) (rows voice : ℕ) (desk : Desk) (label byte : ℕ) →
+    IsAlone layout rows desk.at label byte →
+    Reads (reader_of layout rows voice desk) (layout.address label) byte
+finds_alone layout rows voice desk label byte has =
+    record { found = record { elsewhere = has.elsewhere; reads = has.reads }; is = has.is }
+
 -- the voice that is playing stands on its desk
 pub begins : (layout : Layout) (voice : ℕ) (desk : Desk) (s : Playing) → IsPlaying layout voice s desk.at →
     IsDone layout.holds voice s (lent_of layout desk) (voice_desk layout voice desk) (voice_desk layout voice desk)
@@ -146,7 +153,7 @@ pub fields_at : (holds : ℕ → Bool) (v : Voice) (tempo : ℕ) (own other : �
     Fields holds v tempo own → Fields holds v tempo other
 fields_at holds v tempo own other same f = record {
   tick = same TICK refl ∙ f.tick;
-  gate_timer = same GATE_TIMER refl ∙ f.gate_timer;
+  gate_timer = λ kept. same GATE_TIMER refl ∙ f.gate_timer kept;
   instrument = same INSTRUMENT refl ∙ f.instrument;
   note = same NOTE refl ∙ f.note;
   new_note = same NEW_NOTE refl ∙ f.new_note;

@@ -18,6 +18,11 @@ pub listed : {r : Reader} {Q : ℕ → Type 0} {d : VoiceDesk} (label y byte : �
 listed {r = r} label y byte reads e follows =
     rw e (Listed reads.found (follows (r.before (place_at r label y)) reads.is))
 
+-- a byte that stands alone is read by its label
+pub alone : {r : Reader} {Q : ℕ → Type 0} (label byte : ℕ) → Reads r (r.layout.address label) byte →
+    ((b : ℕ) → b ≡ byte → Q b) → r.IsFound (r.layout.address label) × Q (r.before (r.layout.address label))
+alone label byte reads follows = (reads.found, follows _ reads.is)
+
 -- what a comparison's zero says of two bytes
 pub compared_is : (a b : ℕ) → a < 256 → b < 256 → nat_eq ((a + (256 - b)) % 256) 0 ≡ true → a ≡ b
 compared_is a b few small e = (let z = eqb-true ((a + (256 - b)) % 256) 0 e in omega (arith, z, few, small))

@@ -10,7 +10,7 @@ use Rattle.scopes.specs.declared.line.Half.TheVariants.{Low, High}
 use Rattle.scopes.specs.Desk.{Desk, Layout, operand_place, operand_read}
 use Rattle.scopes.specs.Steps.{may_see}
 use Rattle.player_memory.specs.Labels.{is_own, is_shared}
-use Rattle.player_desk.proofs.VoiceDesks.{VoiceDesk, Reader, with_cpu, Fits, pointed}
+use Rattle.player_desk.proofs.VoiceDesks.{VoiceDesk, Reader, with_cpu, Fits, Either, pointed}
 use Rattle.player_desk.proofs.VoiceDesks.{EntryLeads, Listed, OfAll, LowSlide, HighSlide, SeenLeads}
 use Rattle.player_memory.specs.Rooms.{IsRoom, IsElsewhere, MayUse}
 use Rattle.player_desk.proofs.Effects.{cpu_with, AgreeOn}
@@ -140,16 +140,28 @@ entry_seen {r = r} {desk = desk} {d = d} ground label shows place (HighSlide row
   follows = leads;
 }
 
+-- what is read by its label alone
+var_seen : {voiced : Bool} {r : Reader} {desk : Desk} {d : VoiceDesk} → Ground r → (label : ℕ) (Q : ℕ → Type 0) →
+    Shows voiced r desk d → (z : Bool) → is_shared label ≡ z →
+    Either z (Q (d.shared label)) (r.IsFound (r.layout.address label) × Q (r.before (r.layout.address label))) →
+    Seen r.layout (Var label) desk Q
+var_seen {d = d} ground label Q shows true is leads = record {
+  byte = d.shared label;
+  same = shows.memory (Shared label) is;
+  may = ground.uses.reads label (shared_below label is);
+  follows = leads;
+}
+var_seen {r = r} ground label Q shows false is leads = record {
+  byte = r.before (r.layout.address label);
+  same = shows.memory (Elsewhere (r.layout.address label)) (ground.found _ leads.0);
+  may = ground.reads_found _ leads.0;
+  follows = leads.1;
+}
+
 pub seen : {voiced : Bool} {r : Reader} {desk : Desk} {d : VoiceDesk} → Ground r → (operand : Operand)
     (Q : ℕ → Type 0) → Shows voiced r desk d → SeenLeads voiced r operand Q d → Seen r.layout operand desk Q
 seen ground (Number number) Q shows leads = record { byte = number; same = refl; may = refl; follows = leads }
-seen {r = r} {d = d} ground (Var label) Q shows leads =
-    let f = fit (is_shared label) (Q (d.shared label)) leads in record {
-      byte = d.shared label;
-      same = shows.memory (Shared label) f.0;
-      may = ground.uses.reads label (shared_below label f.0);
-      follows = f.1;
-    }
+seen ground (Var label) Q shows leads = var_seen ground label Q shows (is_shared label) refl leads
 seen {voiced = voiced} {r = r} {desk = desk} {d = d} ground (Own label) Q shows leads =
     let f = fit_both voiced (is_own label) (Q (d.own label)) leads in
     let place = own_place r ground label desk.cpu.x f.1 (shows.x f.0) in record {

@@ -13,7 +13,7 @@ use Rattle.player_memory.specs.declared.labels.TheConstants.{PATTERN_HIGH, ORDER
 use Rattle.player_memory.specs.declared.labels.TheConstants.{TRANSPOSE, REPEAT, LENT, KEPT_COMMAND, KEPT_PARAM}
 use Rattle.player_memory.specs.declared.conditions.TheConstants.{ROW_COMMAND, EFFECTS, SWINGS, INSTRUMENT_VIBRATO}
 use Rattle.player_memory.specs.declared.conditions.TheConstants.{NOTE_DEPENDENT, WAVE_DELAY, PULSE_TABLE, FILTER_USED}
-use Rattle.player_memory.specs.declared.conditions.TheConstants.{SET_VOLUME, FUNK_TEMPO}
+use Rattle.player_memory.specs.declared.conditions.TheConstants.{SET_VOLUME, FUNK_TEMPO, OWN_TIMER}
 use Rattle.player_memory.specs.Variables.{VoiceBytesStand, CommonBytesStand}
 use Rattle.player_desk.proofs.VoiceDesks.{VoiceDesk}
 
@@ -22,7 +22,7 @@ use Rattle.player_desk.proofs.VoiceDesks.{VoiceDesk}
 -- where these conditions hold: a voice's
 pub record Fields (holds : ℕ → Bool) (v : Voice) (tempo : ℕ) (own : ℕ → ℕ) : Type 0 where
   pub tick : own TICK ≡ v.tick
-  pub gate_timer : own GATE_TIMER ≡ v.gate_timer
+  pub gate_timer : holds OWN_TIMER ≡ true → own GATE_TIMER ≡ v.gate_timer
   pub instrument : own INSTRUMENT ≡ v.instrument
   pub note : own NOTE ≡ v.note % 128
   pub new_note : own NEW_NOTE ≡ v.new_note

@@ -103,7 +103,8 @@ Either false P Q = Q
 abbrev pub pointed : VoiceDesk → ℕ
 pointed d = (d.low + 256 * d.high + d.y) % MEMORY_SIZE
 
--- an entry is one of a list, or a byte that no voice owns, or a slide, where the code for calculated speeds is kept
+-- What is read by its label alone is a byte that no voice owns, or one of a list. An entry is one of a list, or a byte that no voice
+-- owns, or a slide, where the code for calculated speeds is kept.
 pub data EntryLeads (r : Reader) (place : ℕ) (Q : ℕ → Type 0) (d : VoiceDesk) : Type 0 where
   Listed : r.IsFound place → Q (r.before place) → EntryLeads r place Q d
   OfAll : (label : ℕ) → is_shared label ≡ true → place ≡ r.layout.address label → Q (d.shared label) →
@@ -115,7 +116,9 @@ pub data EntryLeads (r : Reader) (place : ℕ) (Q : ℕ → Type 0) (d : VoiceDe
 
 abbrev pub SeenLeads : Bool → Reader → Operand → (ℕ → Type 0) → VoiceDesk → Type 0
 SeenLeads voiced r (Number number) Q d = Q number
-SeenLeads voiced r (Var label) Q d = Fits (is_shared label) (Q (d.shared label))
+SeenLeads voiced r (Var label) Q d =
+    Either (is_shared label) (Q (d.shared label))
+    (r.IsFound (r.layout.address label) × Q (r.before (r.layout.address label)))
 SeenLeads voiced r (Own label) Q d = Fits (voiced && is_own label) (Q (d.own label))
 SeenLeads voiced r (Entry label) Q d = EntryLeads r ((r.layout.address label + d.y) % MEMORY_SIZE) Q d
 SeenLeads voiced r Pointed Q d = r.IsFound (pointed d) × Q (r.before (pointed d))
