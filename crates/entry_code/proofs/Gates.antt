@@ -22,9 +22,10 @@ use Rattle.entry_code.proofs.Ends.{AtNext, NextOffset}
 
 -- ---- what is read
 
--- the gateoff timer of an instrument is found
+-- the gateoff timer of an instrument is found, where the lines are kept that read it
 pub record TimerAt (r : Reader) (look : LookUps) (instrument : ℕ) : Type 0 where
-  pub reads : Reads r (place_at r GATE_TIMERS instrument) (look.instrument instrument).gate_timer
+  pub reads : r.layout.holds HELD_NOTE ≡ true →
+      Reads r (place_at r GATE_TIMERS instrument) (look.instrument instrument).gate_timer
   pub byte : (look.instrument instrument).gate_timer < 256
 
 -- the lines are kept that a voice with this command and this instrument asks for before a note
@@ -164,7 +165,7 @@ timer_leads : (r : Reader) (look : LookUps) (s : Playing) (d : VoiceDesk) (place
     Leads r timer_tree (in_scope HELD (done_as (AtRow r s d place bytes entries x rest) ways)) m
 timer_leads r look s d place bytes entries v w x rest ways m timer keeps is instrument tie at = (
   λ kept.
-      listed GATE_TIMERS v.instrument t timer.reads (at.taking.fields.instrument ∙ instrument)
+      listed GATE_TIMERS v.instrument t (timer.reads kept) (at.taking.fields.instrument ∙ instrument)
       (λ b e.
       let seven : nat_eq (bit_and t 0x80) 0 ≡ not (nat_le 128 b) =
       bit_seven t timer.byte ∙ ap (λ n. not (nat_le 128 n)) (sym e) in

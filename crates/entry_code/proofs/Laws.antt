@@ -6,8 +6,10 @@ pub use Rattle.entry_code.proofs.Texts.{Stands, stands_there, Begun, text_begins
 pub use Rattle.entry_code.proofs.Takes.{PatternAt, SamePlay, take_tree, takes}
 -- an entry is begun, read and over
 pub use Rattle.entry_code.proofs.Begins.{AtFetch, begin_leads, two_bytes}
+-- the lines behind the first one of a tree
+pub use Rattle.entry_code.proofs.LastBytes.{behind}
 pub use Rattle.entry_code.proofs.LastBytes.{noted, KeepsNote}
-pub use Rattle.entry_code.proofs.Readings.{Read, read_leads, taken}
+pub use Rattle.entry_code.proofs.Readings.{Read, read_leads, taken, compared}
 pub use Rattle.entry_code.proofs.Ends.{AtOffset, end_leads}
 pub use Rattle.entry_code.proofs.Gates.{AtHeld, TimerAt, KeepsGate, held_leads}
 -- the rule's voice behind a row, and where it is in its song

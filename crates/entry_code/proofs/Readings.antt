@@ -131,7 +131,7 @@ unnamed_ways r s d place bytes left transpose instrument running kind goes ways 
     (in_scope READ (done_as (Read r s d place bytes left transpose instrument running kind) ways)))))
 
 -- A has been compared
-abbrev compared : ℕ → VoiceDesk → VoiceDesk
+abbrev pub compared : ℕ → VoiceDesk → VoiceDesk
 compared number m = record m {
   c = nat_le number m.a;
   z = nat_eq ((m.a + (256 - number)) % 256) 0;

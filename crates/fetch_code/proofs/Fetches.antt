@@ -16,15 +16,17 @@ use Rattle.packed_form.specs.Entries.{IsEntry, no_command, rows_from}
 use Rattle.packed_form.specs.PackedSpells.{PackedSpells, text_of}
 use Rattle.player_memory.specs.declared.conditions.TheConstants.{SKIP_PULSE, SKIP_FIRST}
 use Rattle.player_memory.specs.declared.labels.TheConstants.{REST, OFFSET, TICK, GATE_TIMER, ORDER_LOW, ORDER_HIGH}
+use Rattle.player_memory.specs.declared.labels.TheConstants.{ONE_TIMER}
 use Rattle.player_memory.specs.Fetching.{EntriesStand, EntryIsNext, Walked, NotWalked, AreRests, SongStands, AtEntry}
 use Rattle.player_memory.specs.Fetching.{InRun, InLastRun}
 use Rattle.player_desk.proofs.Laws.{VoiceDesk, Reader, Ways, Fields, Leads, leads_on, done_as, in_scope, body_of}
-use Rattle.player_desk.proofs.Laws.{rest_of, joined, compared_is, over_is}
+use Rattle.player_desk.proofs.Laws.{rest_of, joined, loaded, alone, compared_is, over_is}
 use Rattle.player_desk.proofs.VoiceDesks.{Either}
+use Rattle.scopes.specs.Trees.{Tree, ThenTree, WhenTree, NeverTree}
 use Rattle.player_text.specs.declared.joints.TheConstants.{FETCHES, FIRST, LATE, WALKS, BEGINS, SOUNDS, PULSED}
 use Rattle.player_text.specs.Steps.{fetch_tree}
 use Rattle.player_desk.proofs.Laws.{around_on, Around}
-use Rattle.entry_code.proofs.Laws.{take_tree, SamePlay}
+use Rattle.entry_code.proofs.Laws.{behind, compared, take_tree, SamePlay}
 use Rattle.entry_code.proofs.Laws.{InPlay, same_pattern, same_walk}
 use Rattle.fetch_code.proofs.Taken.{take_leads}
 use Rattle.fetch_code.specs.FetchBlock.{left_out}
@@ -69,56 +71,48 @@ late_leads r look packed order s d m ground at = (
       asked = asked;
     },
     λ some.
-        let out : (r.layout.holds SKIP_FIRST && is_between_patterns s.voice) ≡ false =
-        no_and (r.layout.holds SKIP_FIRST) (is_between_patterns s.voice)
-        (later s.voice (λ z. eqb-false (m.own TICK) 0 some (tick ∙ z))) in (
-          λ zero. due _ refl refl refl refl zero,
-          λ other. (
-            not_due out other,
-            pulsed r look packed order s d m _ refl refl refl (apart other)
-                at.waiting.stands,
-          ),
-        ),
+        by_timer
+        (no_and (r.layout.holds SKIP_FIRST) (is_between_patterns s.voice)
+        (later s.voice (λ z. eqb-false (m.own TICK) 0 some (tick ∙ z)))),
   ),
-  λ out. (
-    λ zero. due _ refl refl refl refl zero,
-    λ other. (
-      not_due (rw out refl) other,
-      pulsed r look packed order s d m _ refl refl refl (apart other) at.waiting.stands,
-    ),
-  ),
+  λ out. by_timer (rw out refl),
 )
   where
     tick : m.own TICK ≡ s.voice.tick
     tick = at.waiting.stands.fields.tick
 
-    timer : m.own GATE_TIMER ≡ s.voice.gate_timer
-    timer = at.waiting.stands.fields.gate_timer
-
-    due : (n : VoiceDesk) → n.own ≡ m.own → n.shared ≡ m.shared → n.sid ≡ m.sid → n.y ≡ m.y →
-        nat_eq ((m.own TICK + (256 - m.own GATE_TIMER)) % 256) 0 ≡ true → AtFetches r look packed order s d n
-    due n own shared sid y now =
+    -- the tick is compared with the timer
+    told : (r.layout.holds SKIP_FIRST && is_between_patterns s.voice) ≡ false → (b : ℕ) → b ≡ s.voice.gate_timer →
+        Leads r (behind (behind (behind (rest_of LATE fetch_tree)))) (FirstWays r look packed order s d)
+        (compared b (loaded (m.own TICK) m))
+    told out b timer =
         let tick_byte = ground.tick in
-        let timer_byte = ground.gate_timer in record {
-          waiting = waits_on r look packed order s d m n own shared sid at.waiting;
-          now =
-              sym tick
-              ∙ (compared_is (m.own TICK) (m.own GATE_TIMER) (omega (arith, tick, tick_byte))
-              (omega (arith, timer, timer_byte)) now ∙ timer);
-          some = λ none. (let is = at.offset in let same = ap (λ f. f OFFSET) own in omega (arith, none, is, same));
-          y = y ∙ (at.y ∙ sym (ap (λ f. f OFFSET) own ∙ at.offset));
-        }
+        let timer_byte = ground.gate_timer in (
+          λ zero. record {
+            waiting = waits_on r look packed order s d m _ refl refl refl at.waiting;
+            now =
+                sym tick
+                ∙ (compared_is (m.own TICK) b (omega (arith, tick, tick_byte)) (omega (arith, timer, timer_byte)) zero
+                ∙ timer);
+            some = λ none. (let is = at.offset in omega (arith, none, is));
+            y = at.y ∙ sym at.offset;
+          },
+          λ other.
+              let apart : s.voice.tick ≢ s.voice.gate_timer = λ e.
+              over_is (m.own TICK) b (omega (arith, timer, timer_byte)) other (tick ∙ (e ∙ sym timer)) in (
+                stays r s.voice
+                    (no_and (r.layout.holds SKIP_PULSE) (is_at_fetch s.voice) (not_at_fetch s.voice apart)) out,
+                pulsed r look packed order s d m _ refl refl refl apart at.waiting.stands,
+              ),
+        )
 
-    apart : nat_eq ((m.own TICK + (256 - m.own GATE_TIMER)) % 256) 0 ≡ false → s.voice.tick ≢ s.voice.gate_timer
-    apart other e =
-        let timer_byte = ground.gate_timer in
-        over_is (m.own TICK) (m.own GATE_TIMER) (omega (arith, timer, timer_byte)) other (tick ∙ (e ∙ sym timer))
-
-    not_due : (r.layout.holds SKIP_FIRST && is_between_patterns s.voice) ≡ false →
-        nat_eq ((m.own TICK + (256 - m.own GATE_TIMER)) % 256) 0 ≡ false → left_out r.layout s.voice ≡ false
-    not_due out other =
-        stays r s.voice
-        (no_and (r.layout.holds SKIP_PULSE) (is_at_fetch s.voice) (not_at_fetch s.voice (apart other))) out
+    by_timer : (r.layout.holds SKIP_FIRST && is_between_patterns s.voice) ≡ false →
+        Leads r (behind (behind (rest_of LATE fetch_tree))) (FirstWays r look packed order s d)
+        (loaded (m.own TICK) m)
+    by_timer out = (
+      λ own. told out (m.own GATE_TIMER) (at.waiting.stands.fields.gate_timer own),
+      λ one. alone ONE_TIMER s.voice.gate_timer (ground.one_timer one) (told out),
+    )
 
 -- ---- the same at tick 0
 
@@ -131,37 +125,18 @@ first_row r look packed order v own none one (AtEntry nothing (NotWalked through
 first_row r look packed order v own none one (InRun some rests inside next) = absurd (some none)
 first_row r look packed order v own none one (InLastRun some rests last next) = absurd (some none)
 
+-- the lines under a condition, where these are the first
+abbrev under_first : Tree → Tree
+under_first (ThenTree (WhenTree condition body) rest) = body
+under_first tree = NeverTree
+
 first_leads : (r : Reader) (look : LookUps) (packed : ℕ → List ℕ) (order : Order) (s : Playing) (d m : VoiceDesk) →
     FetchGround r look packed order s.voice → AtFirst r look packed order s d m →
     Leads r (rest_of FIRST fetch_tree) (FetchWays r look packed order s d) m
 first_leads r look packed order s d m ground at = (
   λ asked. (
-    λ zero. record {
-      waiting = waits_on r look packed order s d m _ refl refl refl at.late.waiting;
-      now = at.tick ∙ (sym acc ∙ (compared_is m.a (m.own GATE_TIMER) (omega (arith, acc)) timer_small zero ∙ timer));
-      some = λ none. (let is = at.late.offset in omega (arith, none, is));
-      y = at.late.y ∙ sym at.late.offset;
-    },
-    λ other.
-        let apart : s.voice.tick ≢ s.voice.gate_timer = λ e.
-        over_is m.a (m.own GATE_TIMER) timer_small other (acc ∙ (sym at.tick ∙ (e ∙ sym timer))) in
-        let none : (r.layout.holds SKIP_PULSE && is_at_fetch s.voice) ≡ false =
-        no_and (r.layout.holds SKIP_PULSE) (is_at_fetch s.voice) (not_at_fetch s.voice apart) in (
-          λ rest.
-              let row : s.voice.row ≡ 0 =
-              first_row r look packed order s.voice m.own (eqb-true (m.own REST) 0 rest) at.late.offset
-              at.late.waiting.stands.song in (
-                rw (none, asked, between s.voice at.tick row) refl,
-                pulsed r look packed order s d m _ refl refl refl apart at.late.waiting.stands,
-              ),
-          λ more. (
-            stays r s.voice none
-                (no_and (r.layout.holds SKIP_FIRST) (is_between_patterns s.voice)
-                (within s.voice (rests_within r look packed order s.voice m.own (eqb-false (m.own REST) 0 more)
-                at.late.waiting.stands.song))),
-            pulsed r look packed order s d m _ refl refl refl apart at.late.waiting.stands,
-          ),
-        ),
+    λ own. told asked (m.own GATE_TIMER) (at.late.waiting.stands.fields.gate_timer own),
+    λ one. alone ONE_TIMER s.voice.gate_timer (ground.one_timer one) (told asked),
   ),
   λ out. absurd (both_ways (r.layout.holds SKIP_FIRST) out at.asked),
 )
@@ -169,11 +144,39 @@ first_leads r look packed order s d m ground at = (
     acc : m.a ≡ 0
     acc = at.a
 
-    timer : m.own GATE_TIMER ≡ s.voice.gate_timer
-    timer = at.late.waiting.stands.fields.gate_timer
-
-    timer_small : m.own GATE_TIMER < 256
-    timer_small = (let byte = ground.gate_timer in omega (arith, timer, byte))
+    -- A, which is the tick, is compared with the timer
+    told : r.layout.holds SKIP_FIRST ≡ true → (b : ℕ) → b ≡ s.voice.gate_timer →
+        Leads r (behind (under_first (rest_of FIRST fetch_tree))) (FetchWays r look packed order s d) (compared b m)
+    told asked b timer =
+        let timer_byte = ground.gate_timer in
+        let small : b < 256 = omega (arith, timer, timer_byte) in (
+          λ zero. record {
+            waiting = waits_on r look packed order s d m _ refl refl refl at.late.waiting;
+            now = at.tick ∙ (sym acc ∙ (compared_is m.a b (omega (arith, acc)) small zero ∙ timer));
+            some = λ none. (let is = at.late.offset in omega (arith, none, is));
+            y = at.late.y ∙ sym at.late.offset;
+          },
+          λ other.
+              let apart : s.voice.tick ≢ s.voice.gate_timer = λ e.
+              over_is m.a b small other (acc ∙ (sym at.tick ∙ (e ∙ sym timer))) in
+              let none : (r.layout.holds SKIP_PULSE && is_at_fetch s.voice) ≡ false =
+              no_and (r.layout.holds SKIP_PULSE) (is_at_fetch s.voice) (not_at_fetch s.voice apart) in (
+                λ rest.
+                    let row : s.voice.row ≡ 0 =
+                    first_row r look packed order s.voice m.own (eqb-true (m.own REST) 0 rest) at.late.offset
+                    at.late.waiting.stands.song in (
+                      rw (none, asked, between s.voice at.tick row) refl,
+                      pulsed r look packed order s d m _ refl refl refl apart at.late.waiting.stands,
+                    ),
+                λ more. (
+                  stays r s.voice none
+                      (no_and (r.layout.holds SKIP_FIRST) (is_between_patterns s.voice)
+                      (within s.voice (rests_within r look packed order s.voice m.own (eqb-false (m.own REST) 0 more)
+                      at.late.waiting.stands.song))),
+                  pulsed r look packed order s d m _ refl refl refl apart at.late.waiting.stands,
+                ),
+              ),
+        )
 
 -- ---- the entry is taken
 

@@ -15,16 +15,17 @@ use Rattle.play_model.specs.Frame.{is_at_fetch, is_between_patterns}
 use Rattle.packed_form.specs.Entries.{IsEntry}
 use Rattle.packed_form.specs.PackedSpells.{PackedSpells}
 use Rattle.scopes.specs.Trees.{Tree}
-use Rattle.player_memory.specs.declared.conditions.TheConstants.{TRANSPOSES, SKIP_PULSE, SKIP_FIRST}
+use Rattle.player_memory.specs.declared.conditions.TheConstants.{TRANSPOSES, SKIP_PULSE, SKIP_FIRST, OWN_TIMER}
 use Rattle.player_memory.specs.declared.labels.TheConstants.{REST, OFFSET, TICK, GATE_TIMER, ORDER_LOW, ORDER_HIGH}
+use Rattle.player_memory.specs.declared.labels.TheConstants.{ONE_TIMER}
 use Rattle.player_memory.specs.Fetching.{transpose_byte, place_before, EntryIsNext, Walked, NotWalked, SongStands}
 use Rattle.player_memory.specs.Fetching.{AtEntry, InRun, InLastRun}
 use Rattle.player_desk.proofs.Laws.{VoiceDesk, Reader, Ways, Fields, Leads, done_as, in_scope, body_of, rest_of}
-use Rattle.player_desk.proofs.Laws.{joined, compared_is, over_is}
+use Rattle.player_desk.proofs.Laws.{joined, loaded, Reads, alone, compared_is, over_is}
 use Rattle.player_text.specs.declared.joints.TheConstants.{FETCHES, FIRST, LATE, WALKS}
 use Rattle.player_text.specs.declared.fetch.TheConstants.{DUE, ENTRY}
 use Rattle.player_text.specs.Steps.{fetch_tree}
-use Rattle.entry_code.proofs.Laws.{stands_there, text_begins}
+use Rattle.entry_code.proofs.Laws.{behind, compared, stands_there, text_begins}
 use Rattle.player_desk.proofs.Laws.{around_on}
 use Rattle.entry_code.proofs.Laws.{PatternAt, SamePlay}
 use Rattle.entry_code.proofs.Laws.{two_bytes}
@@ -164,13 +165,14 @@ entry_within r look packed order v own some more (InLastRun left rests last next
 -- ---- what the step stands on
 
 -- the patterns that the orderlist plays are found, and spell their rows; where transposes aren't kept, none is played;
--- the gateoff timer of the instrument that the voice has behind its row is found; and the lines are kept that the row
--- asks for
+-- the gateoff timer of the instrument that the voice has behind its row is found, and the voice's, where one stands for
+-- all; and the lines are kept that the row asks for
 pub record FetchGround (r : Reader) (look : LookUps) (packed : ℕ → List ℕ) (order : Order) (v : Voice) : Type 0 where
   pub pattern : (n : ℕ) → PatternAt r (place_before r.layout (played order n).pattern) (packed (played order n).pattern)
   pub spells : (n : ℕ) → PackedSpells (packed (played order n).pattern) (look.rows (played order n).pattern)
   pub idle : r.layout.holds TRANSPOSES ≡ false → (n : ℕ) → transpose_byte (played order n).transpose ≡ 0
   pub timer : TimerAt r look (next_instrument look order v)
+  pub one_timer : r.layout.holds OWN_TIMER ≡ false → Reads r (r.layout.address ONE_TIMER) v.gate_timer
   pub keeps : KeepsNext r.layout look order v
   pub tick : v.tick < 256
   pub gate_timer : v.gate_timer < 256
@@ -243,71 +245,79 @@ due_leads : (r : Reader) (look : LookUps) (packed : ℕ → List ℕ) (order : O
     FetchGround r look packed order s.voice → Fetched r look packed order s s.voice d m →
     Leads r (body_of DUE await_tree)
     (in_scope DUE (done_as (AtDue r look packed order s d) (AwaitWays r look packed order s d))) m
-due_leads r look packed order s d m ground at =
-    let tick = at.fields.tick in
-    let timer = at.fields.gate_timer in
-    let tick_byte = ground.tick in
-    let timer_byte = ground.gate_timer in (
-      λ zero. record {
-        stands = stands_on r look packed order s s.voice d m _ refl refl refl at;
-        now =
-            sym tick
-            ∙ (compared_is (m.own TICK) (m.own GATE_TIMER) (omega (arith, tick, tick_byte))
-            (omega (arith, timer, timer_byte)) zero ∙ timer);
-      },
-      λ other.
-          let apart : s.voice.tick ≢ s.voice.gate_timer = λ e.
-          over_is (m.own TICK) (m.own GATE_TIMER) (omega (arith, timer, timer_byte)) other (tick ∙ (e ∙ sym timer)) in
-          let none : (r.layout.holds SKIP_PULSE && is_at_fetch s.voice) ≡ false =
-          no_and (r.layout.holds SKIP_PULSE) (is_at_fetch s.voice) (not_at_fetch s.voice apart) in (
-            λ early.
-                let under = leb-false (m.own GATE_TIMER) (m.own TICK) (not-true _ early) in
-                let before : s.voice.tick ≤ s.voice.gate_timer = omega (arith, under, tick, timer) in
-                let waiting : (n : VoiceDesk) → n.own ≡ m.own → n.shared ≡ m.shared → n.sid ≡ m.sid →
-                Waiting r look packed order s d n = λ n own shared sid. record {
-                  stands = stands_on r look packed order s s.voice d m n own shared sid at;
-                  early = before;
-                  due = λ now. absurd (apart now);
-                } in (
-                  λ through. record {
-                    waiting = waiting _ refl refl refl;
-                    offset = eqb-true (m.own OFFSET) 0 through;
-                  },
-                  λ some.
-                      let isnt : m.own OFFSET ≢ 0 = eqb-false (m.own OFFSET) 0 some in (
-                        λ asked. (
-                          λ one.
-                              let is : m.own OFFSET ≡ 1 = compared_is (m.own OFFSET) 1
-                              (offset_small r look packed order s.voice m.own ground at.song) (omega arith) one in
-                              record {
-                                waiting = waiting _ refl refl refl;
-                                offset = is;
-                                y = is;
-                              },
-                          λ more.
-                              let other : m.own OFFSET ≢ 1 = over_is (m.own OFFSET) 1 (omega arith) more in (
-                                stays r s.voice none
-                                    (no_and (r.layout.holds SKIP_FIRST) (is_between_patterns s.voice)
-                                    (within s.voice (entry_within r look packed order s.voice m.own isnt other
-                                    at.song))),
-                                pulsed r look packed order s d m _ refl refl refl apart at,
-                              ),
-                        ),
-                        λ out. (
-                          stays r s.voice none (rw out refl),
-                          pulsed r look packed order s d m _ refl refl refl apart at,
-                        ),
-                      ),
-                ),
-            λ late.
-                let over = leb-true (m.own GATE_TIMER) (m.own TICK) (not-false _ late) in (
-                  stays r s.voice none
-                      (no_and (r.layout.holds SKIP_FIRST) (is_between_patterns s.voice)
-                      (later s.voice (λ z. apart (omega (arith, over, tick, timer, z))))),
-                  pulsed r look packed order s d m _ refl refl refl apart at,
-                ),
-          ),
-    )
+due_leads r look packed order s d m ground at = (
+  λ own. told (m.own GATE_TIMER) (at.fields.gate_timer own),
+  λ one. alone ONE_TIMER s.voice.gate_timer (ground.one_timer one) told,
+)
+  where
+    told : (b : ℕ) → b ≡ s.voice.gate_timer →
+        Leads r (behind (behind (body_of DUE await_tree)))
+        (in_scope DUE (done_as (AtDue r look packed order s d) (AwaitWays r look packed order s d)))
+        (compared b (loaded (m.own TICK) m))
+    told b timer =
+        let tick = at.fields.tick in
+        let tick_byte = ground.tick in
+        let timer_byte = ground.gate_timer in (
+          λ zero. record {
+            stands = stands_on r look packed order s s.voice d m _ refl refl refl at;
+            now =
+                sym tick
+                ∙ (compared_is (m.own TICK) (b) (omega (arith, tick, tick_byte))
+                (omega (arith, timer, timer_byte)) zero ∙ timer);
+          },
+          λ other.
+              let apart : s.voice.tick ≢ s.voice.gate_timer = λ e.
+              over_is (m.own TICK) (b) (omega (arith, timer, timer_byte)) other (tick ∙ (e ∙ sym timer)) in
+              let none : (r.layout.holds SKIP_PULSE && is_at_fetch s.voice) ≡ false =
+              no_and (r.layout.holds SKIP_PULSE) (is_at_fetch s.voice) (not_at_fetch s.voice apart) in (
+                λ early.
+                    let under = leb-false (b) (m.own TICK) (not-true _ early) in
+                    let before : s.voice.tick ≤ s.voice.gate_timer = omega (arith, under, tick, timer) in
+                    let waiting : (n : VoiceDesk) → n.own ≡ m.own → n.shared ≡ m.shared → n.sid ≡ m.sid →
+                    Waiting r look packed order s d n = λ n own shared sid. record {
+                      stands = stands_on r look packed order s s.voice d m n own shared sid at;
+                      early = before;
+                      due = λ now. absurd (apart now);
+                    } in (
+                      λ through. record {
+                        waiting = waiting _ refl refl refl;
+                        offset = eqb-true (m.own OFFSET) 0 through;
+                      },
+                      λ some.
+                          let isnt : m.own OFFSET ≢ 0 = eqb-false (m.own OFFSET) 0 some in (
+                            λ asked. (
+                              λ one.
+                                  let is : m.own OFFSET ≡ 1 = compared_is (m.own OFFSET) 1
+                                  (offset_small r look packed order s.voice m.own ground at.song) (omega arith) one in
+                                  record {
+                                    waiting = waiting _ refl refl refl;
+                                    offset = is;
+                                    y = is;
+                                  },
+                              λ more.
+                                  let other : m.own OFFSET ≢ 1 = over_is (m.own OFFSET) 1 (omega arith) more in (
+                                    stays r s.voice none
+                                        (no_and (r.layout.holds SKIP_FIRST) (is_between_patterns s.voice)
+                                        (within s.voice (entry_within r look packed order s.voice m.own isnt other
+                                        at.song))),
+                                    pulsed r look packed order s d m _ refl refl refl apart at,
+                                  ),
+                            ),
+                            λ out. (
+                              stays r s.voice none (rw out refl),
+                              pulsed r look packed order s d m _ refl refl refl apart at,
+                            ),
+                          ),
+                    ),
+                λ late.
+                    let over = leb-true (b) (m.own TICK) (not-false _ late) in (
+                      stays r s.voice none
+                          (no_and (r.layout.holds SKIP_FIRST) (is_between_patterns s.voice)
+                          (later s.voice (λ z. apart (omega (arith, over, tick, timer, z))))),
+                      pulsed r look packed order s d m _ refl refl refl apart at,
+                    ),
+              ),
+        )
 
 -- a rest is fetched, or the offset tells whether an entry is left
 pub awaited_leads : (r : Reader) (look : LookUps) (packed : ℕ → List ℕ) (order : Order) (s : Playing)

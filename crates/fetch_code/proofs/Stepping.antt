@@ -14,13 +14,13 @@ use Rattle.scopes.specs.Meaning.{Outcome, Done, Left, Ran, each_one, ran}
 use Rattle.player_memory.specs.declared.conditions.TheConstants.{TRANSPOSES}
 use Rattle.player_memory.specs.declared.labels.TheConstants.{REST, OFFSET, PATTERN_LOW, PATTERN_HIGH, ORDER_LOW}
 use Rattle.player_memory.specs.declared.labels.TheConstants.{ORDER_HIGH, ORDER_PLACE, TRANSPOSE, REPEAT, LENT}
-use Rattle.player_memory.specs.declared.labels.TheConstants.{GATE_TIMERS}
+use Rattle.player_memory.specs.declared.labels.TheConstants.{GATE_TIMERS, ONE_TIMER}
 use Rattle.player_memory.specs.Labels.{is_own}
 use Rattle.player_memory.specs.Playing.{own_at, with_voice}
 use Rattle.player_memory.specs.Fetching.{transpose_byte, HasOrder, EntryIsNext, AreRests, SongStands}
 use Rattle.player_memory.specs.Fetching.{AtEntry, InRun, InLastRun}
 use Rattle.player_desk.proofs.Laws.{VoiceDesk, Reader, Leads, leads_on, Still, Went}
-use Rattle.player_desk.proofs.Laws.{reader_of, voice_desk, finds, begins, ends_still, leaves_still}
+use Rattle.player_desk.proofs.Laws.{reader_of, voice_desk, finds, finds_alone, begins, ends_still, leaves_still}
 use Rattle.player_desk.proofs.Laws.{Shows, is_playing, others_stay, all_slides_stay, OwnSpot, SharedSpot}
 use Rattle.player_desk.proofs.VoiceDesks.{Either}
 use Rattle.player_text.specs.Steps.{fetch_tree as step_tree}
@@ -52,7 +52,8 @@ fetch_ground layout rows voice desk label look packed order v has at = record {
       (at.pattern n);
   spells = λ n. (at.pattern n).spells;
   idle = λ none n. ap transpose_byte (none_played order (no_transposes layout order has.each none) n);
-  timer = record { reads = finds layout rows voice desk GATE_TIMERS _ _ at.timer; byte = at.timer_byte };
+  timer = record { reads = λ kept. finds layout rows voice desk GATE_TIMERS _ _ (at.timer kept); byte = at.timer_byte };
+  one_timer = λ out. finds_alone layout rows voice desk ONE_TIMER _ (at.one_timer out);
   tick = at.tick;
   gate_timer = at.gate_timer;
   new_command = at.command;

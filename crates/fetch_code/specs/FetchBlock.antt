@@ -19,10 +19,12 @@ use Rattle.scopes.specs.Trees.{Tree, NoneTree, ThenTree, ScopeTree}
 use Rattle.scopes.specs.Meaning.{Outcome, Done, Left, Ran, each_one, ran}
 use Rattle.player_memory.specs.declared.conditions.TheConstants.{TRANSPOSES, REPEATS, SKIP_PULSE, SKIP_FIRST}
 use Rattle.player_memory.specs.declared.conditions.TheConstants.{GATE_NOTE, ROW_TONE, LEGATO, NO_HARD_RESTART}
-use Rattle.player_memory.specs.declared.labels.TheConstants.{LENT, GATE_TIMERS}
+use Rattle.player_memory.specs.declared.conditions.TheConstants.{HELD_NOTE, OWN_TIMER}
+use Rattle.player_memory.specs.declared.labels.TheConstants.{LENT, GATE_TIMERS, ONE_TIMER}
 use Rattle.player_memory.specs.FactLines.{KeepsShared}
 use Rattle.player_memory.specs.Rooms.{IsRoom, MayUse}
-use Rattle.player_memory.specs.Playing.{own_at, shared_at, IsListed, IsPlaying, IsAtVoice, OthersStay, AllSlidesStay}
+use Rattle.player_memory.specs.Playing.{own_at, shared_at, IsListed, IsAlone, IsPlaying, IsAtVoice, OthersStay}
+use Rattle.player_memory.specs.Playing.{AllSlidesStay}
 use Rattle.player_memory.specs.Fetching.{IsOrderlist, IsPattern, IsInSong}
 use Rattle.player_text.specs.declared.joints.TheConstants.{SOUNDS, PULSED}
 use Rattle.player_text.specs.Steps.{fetch_tree as step_tree}
@@ -66,14 +68,18 @@ pub record KeepsNext (layout : Layout) (look : LookUps) (order : Order) (v : Voi
   pub soft : KeepsEnvelope (look.instrument (next_instrument look order v)) → layout.holds NO_HARD_RESTART ≡ true
   pub shared : KeepsShared layout
 
--- each pattern that the orderlist plays stands there, too, and the gateoff timer of that instrument; what the code
--- reads of the voice are bytes; and the lines are kept that the next row asks for
+-- Each pattern that the orderlist plays stands there, too, and the gateoff timer of that instrument, where the lines are
+-- kept that find out by it whether the gate or the envelope stays. Where the lines for timers of their own aren't kept,
+-- one timer stands alone for all instruments: the voice's. What the code reads of the voice are bytes; and the lines are kept that the next row asks
+-- for.
 pub record HasRows (layout : Layout) (rows : ℕ) (at : ℕ → ℕ) (look : LookUps) (packed : ℕ → List ℕ) (order : Order)
     (v : Voice) : Type 0 where
   pub pattern : (n : ℕ) →
       IsPattern layout rows at look (played order n).pattern (packed (played order n).pattern)
-  pub timer : IsListed layout rows at GATE_TIMERS (next_instrument look order v)
+  pub timer : layout.holds HELD_NOTE ≡ true →
+      IsListed layout rows at GATE_TIMERS (next_instrument look order v)
       (look.instrument (next_instrument look order v)).gate_timer
+  pub one_timer : layout.holds OWN_TIMER ≡ false → IsAlone layout rows at ONE_TIMER v.gate_timer
   pub timer_byte : (look.instrument (next_instrument look order v)).gate_timer < 256
   pub tick : v.tick < 256
   pub gate_timer : v.gate_timer < 256

@@ -56,7 +56,7 @@ fields_stay : (holds : ℕ → Bool) (v : Voice) (tempo now : ℕ) (one two : �
     Fields holds v tempo one → Fields holds v now two
 fields_stay holds v tempo now one two same is f = record {
   tick = at TICK refl ∙ f.tick;
-  gate_timer = at GATE_TIMER refl ∙ f.gate_timer;
+  gate_timer = λ kept. at GATE_TIMER refl ∙ f.gate_timer kept;
   instrument = at INSTRUMENT refl ∙ f.instrument;
   note = at NOTE refl ∙ f.note;
   new_note = at NEW_NOTE refl ∙ f.new_note;

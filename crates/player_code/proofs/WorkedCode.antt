@@ -16,7 +16,7 @@ use Rattle.scope_lines.proofs.Laws.{sizes_are_bounded}
 use Rattle.player_text.specs.Texts.{filter_tree, voice_tree, init_tree}
 use Rattle.player_text.specs.Facts.{is_list, is_filter_list, is_order_list}
 use Rattle.player_text.proofs.Laws.{are_measured}
-use Rattle.player_memory.specs.declared.labels.TheConstants.{VARIABLES, LENT, FREQUENCY_LOWS, PATTERNS_HIGH, SLIDES_LOW}
+use Rattle.player_memory.specs.declared.labels.TheConstants.{VARIABLES, LENT, FREQUENCY_LOWS, ONE_WAVE, SLIDES_LOW}
 use Rattle.player_memory.specs.declared.labels.TheConstants.{SLIDES_HIGH, FILTER_LEFTS, NEXT_FILTER_LEFTS}
 use Rattle.player_memory.specs.declared.labels.TheConstants.{FILTER_RIGHTS, ORDERS_LOW, ORDERS_HIGH}
 use Rattle.player_code.specs.declared.labels.TheConstants.{INIT_CODE}
@@ -86,14 +86,14 @@ within label e =
 
     in_list : (label : ℕ) → is_list label ≡ true → (FREQUENCY_LOWS ≤ label) × (label < FREQUENCY_LOWS + 34)
     in_list label e =
-        elim (or_cases (nat_le FREQUENCY_LOWS label && nat_le label PATTERNS_HIGH || label == SLIDES_LOW)
+        elim (or_cases (nat_le FREQUENCY_LOWS label && nat_le label ONE_WAVE || label == SLIDES_LOW)
         (label == SLIDES_HIGH) e) [
           | inl low ↦
-              elim (or_cases (nat_le FREQUENCY_LOWS label && nat_le label PATTERNS_HIGH) (label == SLIDES_LOW) low) [
+              elim (or_cases (nat_le FREQUENCY_LOWS label && nat_le label ONE_WAVE) (label == SLIDES_LOW) low) [
                 | inl row ↦
-                    let both = and_parts (nat_le FREQUENCY_LOWS label) (nat_le label PATTERNS_HIGH) row in
+                    let both = and_parts (nat_le FREQUENCY_LOWS label) (nat_le label ONE_WAVE) row in
                     let least = leb-true FREQUENCY_LOWS label both.0 in
-                    let most = leb-true label PATTERNS_HIGH both.1 in
+                    let most = leb-true label ONE_WAVE both.1 in
                     (least, omega (arith, most))
                 | inr slides ↦ same label SLIDES_LOW (omega arith) (omega arith) slides
               ]
@@ -174,7 +174,7 @@ bounds : (all n f v i mf mv mi : ℕ) → all ≡ 25 + n + f + v + i → n ≤ 1
 bounds all n f v i mf mv mi e few one two three four five six = omega (arith, e, few, one, two, three, four, five, six)
 
 bare : (places : ℕ → ℕ) (variables : ℕ) →
-    code_size (plan_with places variables (λ condition. false)) ≡ 25 + variables + 16 + 314 + 64
+    code_size (plan_with places variables (λ condition. false)) ≡ 25 + variables + 16 + 306 + 64
 bare places variables =
     let plan = plan_with places variables (λ condition. false) in
     let init = are_measured.init plan.start (length plan.variables) in

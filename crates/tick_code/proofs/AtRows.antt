@@ -8,6 +8,7 @@ use Rattle.play_model.specs.LookUps.{LookUps}
 use Rattle.play_model.specs.State.{Playing}
 use Rattle.play_model.specs.TickStep.{Ticked, note_started, gate_timer_set, row_command, note_ended, at_row}
 use Rattle.scopes.specs.Trees.{Tree}
+use Rattle.player_memory.specs.declared.conditions.TheConstants.{OWN_TIMER}
 use Rattle.player_memory.specs.declared.labels.TheConstants.{INSTRUMENT, GATE_TIMER, GATE_TIMERS, NEW_NOTE}
 use Rattle.player_desk.proofs.Laws.{VoiceDesk, Reader, Ways, Leads, done_as, in_scope, body_of, rest_of, joined}
 use Rattle.player_desk.proofs.Laws.{goes_on, loaded, indexed, Lent, Done, own_done, done_over, done_by, listed}
@@ -17,7 +18,7 @@ use Rattle.player_memory.specs.Commands.{KeepsTempo}
 use Rattle.player_memory.specs.FactLines.{KeepsShared}
 use Rattle.tick_code.specs.TickBlock.{tick_tree, KeepsCommand, KeepsRow, KeepsInstrument}
 use Rattle.tick_code.proofs.Pieces.{first_of, behind}
-use Rattle.tick_code.proofs.TickDesks.{Ticking, cleared, low_six}
+use Rattle.tick_code.proofs.TickDesks.{Ticking, cleared, low_six, not_held}
 use Rattle.tick_code.proofs.TickGrounds.{InstrumentAt, SpeedAt, ways_of}
 use Rattle.tick_code.proofs.NoteRules.{note_row, command_row, starts, starts_same, cleared_same}
 use Rattle.tick_code.proofs.OnceChain.{Ended}
@@ -52,24 +53,40 @@ end_leads r x t handed d m note is done = (
 
 -- ---- the row
 
--- A is the gateoff timer
-record AtTimer (number : ℕ) (r : Reader) (timer : ℕ) (s : Playing) (handed : Lent) (d m : VoiceDesk) : Type 0 where
-  at : Ticking number r s handed d m
-  a : m.a ≡ timer
-
 abbrev timer_tree : Tree
 timer_tree = behind (rest_of AT_ROW tick_tree)
 
+-- the gateoff timer is set, where the lines for it are kept
 timer_leads : (r : Reader) (look : LookUps) (number : ℕ) (s : Playing) (handed : Lent) (d : VoiceDesk)
     (ways : Ways) (m : VoiceDesk) → InstrumentAt r look number → Ticking number r s handed d m →
     Leads r (first_of timer_tree)
-    (done_as (AtTimer number r (look.instrument number).gate_timer s handed d) ways) m
-timer_leads r look number s handed d ways m ground at =
-    listed GATE_TIMERS number (look.instrument number).gate_timer ground.gate_timer at.y_is
-    (λ b e. record {
-      at = record { done = done_over r.layout.holds r.voice s handed d m _ refl refl refl at.done; y_is = at.y_is };
-      a = e;
-    })
+    (done_as (Ticking number r (gate_timer_set (look.instrument number) s) handed d) ways) m
+timer_leads r look number s handed d ways m ground at = (
+  λ kept.
+      listed GATE_TIMERS number i.gate_timer (ground.gate_timer kept) at.y_is
+      (λ b e.
+      let six : bit_and b 0x3F ≡ i.gate_timer % 64 =
+      ap (λ k. bit_and k 0x3F) e ∙ low_six i.gate_timer ground.gate_timer_byte in
+      record {
+        done =
+            own_done r.layout.holds r.voice s (gate_timer_set i s) handed d m _ refl refl refl
+            (assumption (six, done.fields)) (assumption done.song) done;
+        y_is = at.y_is;
+      }),
+  λ out. record {
+    done =
+        own_done r.layout.holds r.voice s (gate_timer_set i s) handed d m _ refl refl refl
+        (assumption (not_held r OWN_TIMER (m.own GATE_TIMER) (i.gate_timer % 64) out, done.fields))
+        (assumption done.song) done;
+    y_is = at.y_is;
+  },
+)
+  where
+    i : Instrument
+    i = look.instrument number
+
+    done : Done r.layout.holds r.voice s handed d m
+    done = at.done
 
 pub row_leads : (r : Reader) (look : LookUps) (s : Playing) (handed : Lent) (d m : VoiceDesk) → r.voice < 3 →
     s.voice.new_command < 256 → s.voice.new_param < 256 → InstrumentAt r look s.voice.instrument →
@@ -83,26 +100,16 @@ pub row_leads : (r : Reader) (look : LookUps) (s : Playing) (handed : Lent) (d m
     (ways_of r (at_row (r.voice + 1) look (look.instrument s.voice.instrument) s) handed d)) m
 unfolding at_row
 row_leads r look s handed d m voice few small ground keeps row tempo instrument shared sides done =
-    goes_on true r (first_of timer_tree) (behind timer_tree) (AtTimer number r i.gate_timer s handed d) goal
+    goes_on true r (first_of timer_tree) (behind timer_tree) (Ticking number r timed handed d) goal
     (indexed (m.own INSTRUMENT) m)
     (timer_leads r look number s handed d goal (indexed (m.own INSTRUMENT) m) ground (record {
       done = done_over r.layout.holds r.voice s handed d m _ refl refl refl done;
       y_is = done.fields.instrument;
     }))
-    (λ n timer.
-    let six : bit_and n.a 0x3F ≡ i.gate_timer % 64 =
-    ap (λ k. bit_and k 0x3F) timer.a ∙ low_six i.gate_timer ground.gate_timer_byte in
-    let stands = timer.at.done in
-    let set : VoiceDesk =
-    record (loaded (bit_and n.a 0x3F) n) { own = put n.own GATE_TIMER (bit_and n.a 0x3F) } in
+    (λ set at.
     joined true r TAKEN (body_of TAKEN tick_tree) (rest_of TAKEN tick_tree) (AtCommand r look number timed handed d)
     goal set
-    (note_leads r look number timed handed d goal set ground instrument row shared few (record {
-      done =
-          own_done r.layout.holds r.voice s timed handed d n set refl refl refl (assumption (six, stands.fields))
-          (assumption stands.song) stands;
-      y_is = timer.at.y_is;
-    }))
+    (note_leads r look number timed handed d goal set ground instrument row shared few at)
     (λ k at.
     joined true r DONE (body_of DONE tick_tree) (rest_of DONE tick_tree) (Ended r look i c p at.u handed d) goal k
     (command_leads r look number c p at.u handed d goal k voice few small ground keeps row tempo instrument.vibrato

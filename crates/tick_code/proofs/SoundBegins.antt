@@ -12,11 +12,12 @@ use Rattle.player_memory.specs.declared.conditions.TheConstants.{FIRST_MASK, NOT
 use Rattle.player_memory.specs.declared.conditions.TheConstants.{WAVE_DELAY, EFFECTS}
 use Rattle.player_memory.specs.declared.labels.TheConstants.{WAVE, GATE, FILTER_POINTER, FILTER_TIME, WAVES, ADS, SRS}
 use Rattle.player_memory.specs.declared.labels.TheConstants.{COMMAND, WAVE_TIME, PARAM, VIBRATOS, FIRST_WAVES, PULSES}
+use Rattle.player_memory.specs.declared.labels.TheConstants.{ONE_WAVE}
 use Rattle.player_memory.specs.declared.labels.TheConstants.{FILTERS}
 use Rattle.player_desk.proofs.Laws.{VoiceDesk, Reader, Ways, Leads, done_as, in_scope, body_of, rest_of, joined}
-use Rattle.player_desk.proofs.Laws.{goes_on, loaded, Lent, Done, own_done, done_over, listed}
+use Rattle.player_desk.proofs.Laws.{goes_on, loaded, Lent, Done, own_done, done_over, listed, alone}
 use Rattle.player_text.specs.declared.joints.TheConstants.{TAKEN}
-use Rattle.player_text.specs.declared.tick.TheConstants.{MASKED, NO_PULSE, NO_FILTER}
+use Rattle.player_text.specs.declared.tick.TheConstants.{MASKED, MASK, NO_PULSE, NO_FILTER}
 use Rattle.scopes.specs.Trees.{Tree}
 use Rattle.tick_code.specs.TickBlock.{tick_tree, KeepsInstrument}
 use Rattle.command_code.proofs.Laws.{shared_done, tempos_kept}
@@ -41,10 +42,39 @@ masked_leads : (r : Reader) (look : LookUps) (number : ℕ) (s : Playing) (v : V
     Leads r (body_of MASKED tick_tree)
     (in_scope MASKED (done_as
     (Ticking number r (waved (first_wave_set (look.instrument number).first_wave v) s) handed d) ways)) m
-masked_leads r look number s v handed d ways m ground keeps at =
-    let done : Done r.layout.holds r.voice (waved v s) handed d m = at.done in
-    listed FIRST_WAVES number wave ground.first_wave at.y_is
-    (λ b e. (
+masked_leads r look number s v handed d ways m ground keeps at = (
+  λ own. listed FIRST_WAVES number wave (ground.first_wave own) at.y_is loads,
+  λ one. alone ONE_WAVE wave (ground.one_wave one) loads,
+)
+  where
+    wave : ℕ
+    wave = (look.instrument number).first_wave
+
+    goal : Ways
+    goal =
+        in_scope MASKED (done_as
+        (Ticking number r (waved (first_wave_set (look.instrument number).first_wave v) s) handed d) ways)
+
+    done : Done r.layout.holds r.voice (waved v s) handed d m
+    done = at.done
+
+    plain : (n : VoiceDesk) (b : ℕ) → b ≡ wave → n.own ≡ put (put m.own WAVE b) GATE 0xFF → n.shared ≡ m.shared →
+        n.sid ≡ m.sid → wave ≢ 0 → nat_le 0xFE wave ≡ false →
+        Done r.layout.holds r.voice (waved (first_wave_set wave v) s) handed d n
+    plain n b e own shared sid some low =
+        done_as_is r _ _ handed d n (ap (λ x. waved x s) (wave_plain wave v some low))
+        (own_done r.layout.holds r.voice (waved v s) (waved (record v { wave = wave; gate = 0xFF }) s) handed d m n
+        shared sid refl (rw own (assumption (e, done.fields))) (rw own (assumption done.song)) done)
+
+    below : r.layout.holds FIRST_MASK ≡ false → (wave < 0xFE) ⊎ (0xFE ≤ wave) → nat_le 0xFE wave ≡ false
+    below out (inl low) = lt-leb 0xFE wave low
+    below out (inr high) = absurd (both_ways (r.layout.holds FIRST_MASK) out (keeps (inr high)))
+
+    -- A is the first waveform
+    loads : (b : ℕ) → b ≡ wave →
+        Leads r (behind (body_of MASK tick_tree))
+        (in_scope MASK (done_as (Leads r (rest_of MASK tick_tree) goal) goal)) (loaded b m)
+    loads b e = (
       λ kept. (
         λ zero. record {
           done =
@@ -75,23 +105,7 @@ masked_leads r look number s v handed d ways m ground keeps at =
             (below out (cases_lt wave 0xFE));
         y_is = at.y_is;
       },
-    ))
-  where
-    wave : ℕ
-    wave = (look.instrument number).first_wave
-
-    plain : (n : VoiceDesk) (b : ℕ) → b ≡ wave → n.own ≡ put (put m.own WAVE b) GATE 0xFF → n.shared ≡ m.shared →
-        n.sid ≡ m.sid → wave ≢ 0 → nat_le 0xFE wave ≡ false →
-        Done r.layout.holds r.voice (waved (first_wave_set wave v) s) handed d n
-    plain n b e own shared sid some low =
-        let done : Done r.layout.holds r.voice (waved v s) handed d m = at.done in
-        done_as_is r _ _ handed d n (ap (λ x. waved x s) (wave_plain wave v some low))
-        (own_done r.layout.holds r.voice (waved v s) (waved (record v { wave = wave; gate = 0xFF }) s) handed d m n
-        shared sid refl (rw own (assumption (e, done.fields))) (rw own (assumption done.song)) done)
-
-    below : r.layout.holds FIRST_MASK ≡ false → (wave < 0xFE) ⊎ (0xFE ≤ wave) → nat_le 0xFE wave ≡ false
-    below out (inl low) = lt-leb 0xFE wave low
-    below out (inr high) = absurd (both_ways (r.layout.holds FIRST_MASK) out (keeps (inr high)))
+    )
 
 -- ---- the programs
 

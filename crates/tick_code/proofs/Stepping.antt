@@ -9,14 +9,16 @@ use Rattle.scopes.specs.Trees.{Tree}
 use Rattle.scopes.specs.Meaning.{Ran, each_one, ran}
 use Rattle.player_memory.specs.declared.labels.TheConstants.{ADS, SRS, WAVES, PULSES, FILTERS, VIBRATOS, DELAYS}
 use Rattle.player_memory.specs.declared.labels.TheConstants.{GATE_TIMERS, FIRST_WAVES, SPEED_LEFTS, SPEED_RIGHTS}
+use Rattle.player_memory.specs.declared.labels.TheConstants.{ONE_WAVE}
 use Rattle.player_memory.specs.Rooms.{IsRoom, MayUse}
 use Rattle.player_memory.specs.Playing.{IsAtVoice, there}
 use Rattle.player_desk.proofs.Laws.{VoiceDesk, Reader, Ways, Leads, ends, leaves, leads_on, Done as IsDone}
-use Rattle.player_desk.proofs.Laws.{reader_of, voice_desk, lent_of, finds, begins, leaves_slides, plays_so}
+use Rattle.player_desk.proofs.Laws.{reader_of, voice_desk, lent_of, finds, finds_alone, begins, leaves_slides, plays_so}
 use Rattle.player_desk.proofs.Laws.{ends_still, leaves_still}
 use Rattle.player_desk.proofs.VoiceDesks.{Either}
 use Rattle.player_text.specs.declared.joints.TheConstants.{SOUNDS}
-use Rattle.tick_code.specs.TickBlock.{tick_tree, HasInstrument, HasTickLists, way_of, Ticks, TickBlockSteps}
+use Rattle.tick_code.specs.TickBlock.{tick_tree, HasInstrument, HasTickLists, HasOneWave, way_of, Ticks}
+use Rattle.tick_code.specs.TickBlock.{TickBlockSteps}
 use Rattle.tick_code.proofs.TickGrounds.{InstrumentAt, SpeedAt, TickGround, TickDone, ways_of}
 use Rattle.tick_code.proofs.Ticks.{tick_leads}
 
@@ -84,8 +86,9 @@ ticks layout rows voice tree desk t stores room uses few at leads b e = by_way b
 -- ---- the lists
 
 instrument_at : (layout : Layout) (rows voice : ℕ) (look : LookUps) (desk : Desk) (number : ℕ) →
-    HasInstrument layout rows desk.at look number → InstrumentAt (reader_of layout rows voice desk) look number
-instrument_at layout rows voice look desk number has = record {
+    HasInstrument layout rows desk.at look number → HasOneWave layout rows desk.at (look.instrument number) →
+    InstrumentAt (reader_of layout rows voice desk) look number
+instrument_at layout rows voice look desk number has one_wave = record {
   ad = finds layout rows voice desk ADS number _ has.ad;
   sr = finds layout rows voice desk SRS number _ has.sr;
   wave = finds layout rows voice desk WAVES number _ has.wave;
@@ -93,8 +96,9 @@ instrument_at layout rows voice look desk number has = record {
   filter = λ kept. finds layout rows voice desk FILTERS number _ (has.filter kept);
   vibrato = λ kept. finds layout rows voice desk VIBRATOS number _ (has.vibrato kept);
   delay = λ kept. finds layout rows voice desk DELAYS number _ (has.delay kept);
-  gate_timer = finds layout rows voice desk GATE_TIMERS number _ has.gate_timer;
-  first_wave = finds layout rows voice desk FIRST_WAVES number _ has.first_wave;
+  gate_timer = λ kept. finds layout rows voice desk GATE_TIMERS number _ (has.gate_timer kept);
+  first_wave = λ kept. finds layout rows voice desk FIRST_WAVES number _ (has.first_wave kept);
+  one_wave = λ out. finds_alone layout rows voice desk ONE_WAVE _ (one_wave out);
   gate_timer_byte = has.gate_timer_byte;
 }
 
@@ -109,7 +113,7 @@ speed_at layout rows voice instruments speeds look desk p has some few = record 
 -- ---- the clause
 
 pub tick_block_steps : TickBlockSteps
-tick_block_steps layout rows voice instruments speeds look s desk room uses has few at playing on keeps =
+tick_block_steps layout rows voice instruments speeds look s desk room uses has few at playing on keeps one_wave =
     ticks layout rows voice tick_tree desk (tick_step (voice + 1) look s) refl room uses few at
     (tick_leads (reader_of layout rows voice desk) look s (lent_of layout desk) (voice_desk layout voice desk)
     (voice_desk layout voice desk) few room ground keeps (begins layout voice desk s playing))
@@ -118,7 +122,7 @@ tick_block_steps layout rows voice instruments speeds look s desk room uses has 
     ground : TickGround (reader_of layout rows voice desk) look s
     ground = record {
       instrument = λ now. instrument_at layout rows voice look desk s.voice.instrument
-          (has.instrument s.voice.instrument on.from on.to);
+          (has.instrument s.voice.instrument on.from on.to) (one_wave now);
       speed = λ now is some. speed_at layout rows voice instruments speeds look desk s.voice.new_param has some
           (on.speed is);
       command_byte = on.command;

@@ -5,8 +5,9 @@ use Rattle.play_model.specs.LookUps.{LookUps}
 use Rattle.play_model.specs.State.{Playing}
 use Rattle.play_model.specs.TickStep.{Ticked, tick_step}
 use Rattle.player_memory.specs.declared.conditions.TheConstants.{NOTE_VIBRATO, VIBRATO_DELAY, NOTE_PULSE, NOTE_FILTER}
+use Rattle.player_memory.specs.declared.conditions.TheConstants.{OWN_TIMER, OWN_WAVE}
 use Rattle.player_memory.specs.declared.labels.TheConstants.{ADS, SRS, WAVES, PULSES, FILTERS, VIBRATOS, DELAYS}
-use Rattle.player_memory.specs.declared.labels.TheConstants.{GATE_TIMERS, FIRST_WAVES}
+use Rattle.player_memory.specs.declared.labels.TheConstants.{GATE_TIMERS, FIRST_WAVES, ONE_WAVE}
 use Rattle.player_desk.proofs.Laws.{VoiceDesk, Reader, Ways, Lent, Done, Reads, place_at}
 use Rattle.player_desk.proofs.VoiceDesks.{Either}
 use Rattle.player_text.specs.declared.joints.TheConstants.{SOUNDS}
@@ -14,8 +15,8 @@ use Rattle.tick_code.specs.TickBlock.{IsRowDone}
 
 -- ---- what the code stands on
 
--- the bytes of an instrument, four of them where the lines that read them are kept; of its vibrato's delay one less
--- stands there
+-- the bytes of an instrument, six of them where the lines that read them are kept; of its vibrato's delay one less
+-- stands there, and where there is one first waveform for all it is the instrument's
 pub record InstrumentAt (r : Reader) (look : LookUps) (number : ℕ) : Type 0 where
   pub ad : Reads r (place_at r ADS number) (look.instrument number).ad
   pub sr : Reads r (place_at r SRS number) (look.instrument number).sr
@@ -26,8 +27,12 @@ pub record InstrumentAt (r : Reader) (look : LookUps) (number : ℕ) : Type 0 wh
       Reads r (place_at r VIBRATOS number) (look.instrument number).vibrato
   pub delay : r.layout.holds VIBRATO_DELAY ≡ true →
       Reads r (place_at r DELAYS number) (((look.instrument number).vibrato_delay + 255) % 256)
-  pub gate_timer : Reads r (place_at r GATE_TIMERS number) (look.instrument number).gate_timer
-  pub first_wave : Reads r (place_at r FIRST_WAVES number) (look.instrument number).first_wave
+  pub gate_timer : r.layout.holds OWN_TIMER ≡ true →
+      Reads r (place_at r GATE_TIMERS number) (look.instrument number).gate_timer
+  pub first_wave : r.layout.holds OWN_WAVE ≡ true →
+      Reads r (place_at r FIRST_WAVES number) (look.instrument number).first_wave
+  pub one_wave : r.layout.holds OWN_WAVE ≡ false →
+      Reads r (r.layout.address ONE_WAVE) (look.instrument number).first_wave
   pub gate_timer_byte : (look.instrument number).gate_timer < 256
 
 -- what is read at a row: the voice's instrument, and for command $E the row of the speed table that its parameter names

@@ -6,12 +6,12 @@ use Rattle.std.proofs.lemmas.Bool.{lt-ltb, ltb-true, and_parts, true≢false, bo
 use Rattle.play_model.specs.TickStep.{tempo_of, tick_step, at_row as done_at_row, note_started, row_command}
 use Rattle.scopes.specs.Meaning.{Outcome, Left}
 use Rattle.player_memory.specs.declared.labels.TheConstants.{TEMPO, ADS, SRS, WAVES, PULSES, FILTERS, VIBRATOS, DELAYS}
-use Rattle.player_memory.specs.declared.labels.TheConstants.{GATE_TIMERS, FIRST_WAVES}
+use Rattle.player_memory.specs.declared.labels.TheConstants.{GATE_TIMERS, ONE_WAVE}
 use Rattle.player_memory.specs.Rooms.{IsRoom, IsElsewhere, MayUse}
 use Rattle.player_memory.specs.Playing.{own_at, shared_at, place_in, IsListed, IsPlaying}
 use Rattle.player_text.specs.declared.joints.TheConstants.{SOUNDS, TICKED}
 use Rattle.player_desk.proofs.Laws.{fields_stand, shared_stand}
-use Rattle.tick_code.specs.TickBlock.{HasInstrument, HasTickLists, IsInLists, KeepsCommand, KeepsTick}
+use Rattle.tick_code.specs.TickBlock.{HasInstrument, HasTickLists, HasOneWave, IsInLists, KeepsCommand, KeepsTick}
 use Rattle.player_memory.specs.FactLines.{KeepsShared}
 use Rattle.player_memory.specs.declared.conditions.TheConstants.{FUNK_TEMPO}
 use Rattle.tick_code.specs.WorkedTick.{laid, sound, bare, with_one, with_instrument, look, waiting, memory}
@@ -72,10 +72,11 @@ listed_at : (label byte : ℕ) → 0x2000 ≤ place_in laid label 1 → place_in
 listed_at label byte from to is =
     record { elsewhere = elsewhere (place_in laid label 1) from to; reads = refl; is = is }
 
--- where the lines of pulse programs and of vibratos aren't kept, these bytes may be others
-first_with : (pulse vibrato : ℕ) →
-    HasInstrument laid 1 memory (with_instrument (record sound { pulse = pulse; vibrato = vibrato })) 1
-first_with pulse vibrato = record {
+-- where the lines of pulse programs, of vibratos and of first waveforms aren't kept, these bytes may be others
+first_with : (pulse vibrato wave : ℕ) →
+    HasInstrument laid 1 memory
+    (with_instrument (record sound { pulse = pulse; vibrato = vibrato; first_wave = wave })) 1
+first_with pulse vibrato wave = record {
   ad = listed_at ADS 0x12 (omega arith) (omega arith) refl;
   sr = listed_at SRS 0x34 (omega arith) (omega arith) refl;
   wave = listed_at WAVES 1 (omega arith) (omega arith) refl;
@@ -83,21 +84,29 @@ first_with pulse vibrato = record {
   filter = λ kept. listed_at FILTERS 2 (omega arith) (omega arith) refl;
   vibrato = λ kept. absurd cc;
   delay = λ kept. listed_at DELAYS 2 (omega arith) (omega arith) refl;
-  gate_timer = listed_at GATE_TIMERS 0x42 (omega arith) (omega arith) refl;
-  first_wave = listed_at FIRST_WAVES 9 (omega arith) (omega arith) refl;
+  gate_timer = λ kept. listed_at GATE_TIMERS 0x42 (omega arith) (omega arith) refl;
+  first_wave = λ kept. absurd cc;
   gate_timer_byte = omega arith;
 }
 
 first : HasInstrument laid 1 memory look 1
-first = first_with 0 0
+first = first_with 0 0 9
+
+one_wave : HasOneWave laid 1 memory sound
+one_wave out =
+    record { elsewhere = elsewhere (laid.address ONE_WAVE) (omega arith) (omega arith); reads = refl; is = refl }
 
 fields_are_read : FieldsAreRead
 fields_are_read = record {
-  unread = first_with 7 8;
+  unread = first_with 7 8 7;
   pulse = λ has. (let byte = (has.pulse refl).is in omega (arith, byte));
   vibrato = λ has. (let byte = (has.vibrato refl).is in omega (arith, byte));
   filter = λ has. (let byte = (has.filter refl).is in omega (arith, byte));
   delay = λ has. (let byte = (has.delay refl).is in omega (arith, byte));
+  timer = λ has. (let byte = (has.gate_timer refl).is in omega (arith, byte));
+  wave = λ has. (let byte = (has.first_wave refl).is in omega (arith, byte));
+  one_wave = λ has. (let byte = (has refl).is in omega (arith, byte));
+  own_wave = λ out. absurd cc;
 }
 
 lists : HasTickLists laid 1 memory look 1 0
@@ -119,7 +128,7 @@ playing : IsPlaying laid 1 waiting memory
 playing = record {
   own = fields_stand laid.holds waiting.voice 5 (own_at laid memory 1) (record {
     tick = refl;
-    gate_timer = refl;
+    gate_timer = λ on. refl;
     instrument = refl;
     note = refl;
     new_note = refl;
@@ -257,6 +266,7 @@ tick_is_worked = record {
     playing = playing;
     at_row = at_row;
     keeps = keeps;
+    one_wave = one_wave;
   };
   worked = record {
     way = refl;

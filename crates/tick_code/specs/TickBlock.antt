@@ -14,15 +14,16 @@ use Rattle.scope_lines.specs.Reach.{nothing_around, has_lines}
 use Rattle.scope_lines.specs.Sizes.{size}
 use Rattle.player_memory.specs.declared.conditions.TheConstants.{FUNK_TEMPO, ROW_TONE, ROW_SLIDE, ROW_ONCE}
 use Rattle.player_memory.specs.declared.conditions.TheConstants.{FIRST_MASK, NOTE_VIBRATO, VIBRATO_DELAY, NOTE_PULSE}
-use Rattle.player_memory.specs.declared.conditions.TheConstants.{NOTE_FILTER}
+use Rattle.player_memory.specs.declared.conditions.TheConstants.{NOTE_FILTER, OWN_TIMER, OWN_WAVE}
 use Rattle.player_memory.specs.declared.labels.TheConstants.{ADS, SRS, WAVES, PULSES, FILTERS, VIBRATOS, DELAYS}
 use Rattle.player_memory.specs.declared.labels.TheConstants.{GATE_TIMERS, FIRST_WAVES, SPEED_LEFTS, SPEED_RIGHTS}
+use Rattle.player_memory.specs.declared.labels.TheConstants.{ONE_WAVE}
 use Rattle.player_memory.specs.Commands.{condition_of, AreKept, KeepsTempo}
 use Rattle.player_memory.specs.FactLines.{KeepsShared}
 use Rattle.player_memory.specs.Rooms.{IsRoom, MayUse}
 use Rattle.player_text.specs.declared.joints.TheConstants.{SOUNDS, TICKED}
 use Rattle.player_text.specs.Steps.{tick_tree as step_tree}
-use Rattle.player_memory.specs.Playing.{IsListed, IsTable, IsPlaying, IsAtVoice, Plays, there}
+use Rattle.player_memory.specs.Playing.{IsListed, IsAlone, IsTable, IsPlaying, IsAtVoice, Plays, there}
 
 -- ---- its lines
 
@@ -30,12 +31,12 @@ use Rattle.player_memory.specs.Playing.{IsListed, IsTable, IsPlaying, IsAtVoice,
 abbrev pub tick_tree : Tree
 tick_tree = ThenTree (ScopeTree TICKED step_tree) NoneTree
 
--- In a scope that it leaves where a note has started it has lines; they take 381 bytes where all are kept, and 82
+-- In a scope that it leaves where a note has started it has lines; they take 381 bytes where all are kept, and 74
 -- where none are that stand under a condition.
 pub record TickBlockHasLines : Type 0 where
   pub has : has_lines nothing_around (ScopeTree SOUNDS tick_tree) ≡ true
   pub all : size (λ condition. true) tick_tree ≡ 381
-  pub least : size (λ condition. false) tick_tree ≡ 82
+  pub least : size (λ condition. false) tick_tree ≡ 74
 
 -- ---- what is kept
 
@@ -75,7 +76,7 @@ pub record KeepsTick (layout : Layout) (channel : ℕ) (look : LookUps) (s : Pla
 
 -- ---- what is read
 
--- An instrument's bytes stand in nine lists, of which the player has four only where it keeps the lines that read them.
+-- An instrument's bytes stand in nine lists, of which the player has six only where it keeps the lines that read them.
 -- Its vibrato's delay stands there less one, 255 for none, and its gateoff timer with all bits.
 pub record HasInstrument (layout : Layout) (rows : ℕ) (at : ℕ → ℕ) (look : LookUps) (number : ℕ) : Type 0 where
   pub ad : IsListed layout rows at ADS number (look.instrument number).ad
@@ -89,8 +90,10 @@ pub record HasInstrument (layout : Layout) (rows : ℕ) (at : ℕ → ℕ) (look
       IsListed layout rows at VIBRATOS number (look.instrument number).vibrato
   pub delay : layout.holds VIBRATO_DELAY ≡ true →
       IsListed layout rows at DELAYS number (((look.instrument number).vibrato_delay + 255) % 256)
-  pub gate_timer : IsListed layout rows at GATE_TIMERS number (look.instrument number).gate_timer
-  pub first_wave : IsListed layout rows at FIRST_WAVES number (look.instrument number).first_wave
+  pub gate_timer : layout.holds OWN_TIMER ≡ true →
+      IsListed layout rows at GATE_TIMERS number (look.instrument number).gate_timer
+  pub first_wave : layout.holds OWN_WAVE ≡ true →
+      IsListed layout rows at FIRST_WAVES number (look.instrument number).first_wave
   pub gate_timer_byte : (look.instrument number).gate_timer < 256
 
 -- the first instruments, and the rows of the speed table
@@ -98,6 +101,10 @@ pub record HasTickLists (layout : Layout) (rows : ℕ) (at : ℕ → ℕ) (look 
     : Type 0 where
   pub instrument : (number : ℕ) → 1 ≤ number → number ≤ instruments → HasInstrument layout rows at look number
   pub speed : IsTable layout rows at SPEED_LEFTS SPEED_RIGHTS speeds (look.row Speed)
+
+-- where the lines for first waveforms of their own aren't kept, one stands alone for all instruments: this one's
+abbrev pub HasOneWave : Layout → ℕ → (ℕ → ℕ) → Instrument → Type 0
+HasOneWave layout rows at i = layout.holds OWN_WAVE ≡ false → IsAlone layout rows at ONE_WAVE i.first_wave
 
 -- the voice has one of the instruments; its row's command and parameter are bytes, and that of command $E is 0 or names
 -- a row of the speed table
@@ -127,4 +134,5 @@ TickBlockSteps =
     IsRoom layout rows → MayUse layout rows → HasTickLists layout rows desk.at look instruments speeds → voice < 3 →
     IsAtVoice voice desk → IsPlaying layout voice s desk.at → IsInLists instruments speeds s.voice →
     KeepsTick layout (voice + 1) look s →
+    (IsRowDone s → HasOneWave layout rows desk.at (look.instrument s.voice.instrument)) →
     Ticks layout rows voice desk (ran each_one layout tick_tree desk) (tick_step (voice + 1) look s)

@@ -15,26 +15,28 @@ use Rattle.player_memory.specs.declared.conditions.TheConstants.{SET_FILTER_CONT
 use Rattle.player_memory.specs.declared.conditions.TheConstants.{VOICE_TEMPO, FUNK_TURNS, FUNK_CHOICE}
 use Rattle.player_memory.specs.declared.conditions.TheConstants.{SET_TEMPO, ROW_SLIDE, ROW_ONCE, ROW_COMMAND}
 use Rattle.player_memory.specs.declared.conditions.TheConstants.{VIBRATO_DELAY, NOTE_FILTER, NOTE_PULSE, NOTE_VIBRATO}
+use Rattle.player_memory.specs.declared.conditions.TheConstants.{OWN_TIMER, OWN_WAVE}
 use Rattle.player_memory.specs.declared.labels.TheConstants.{VARIABLES, TICK, GATE_TIMER, INSTRUMENT, NOTE, NEW_NOTE}
 use Rattle.player_memory.specs.declared.labels.TheConstants.{NEW_COMMAND, NEW_PARAM, AD, VIB_DELAY, WAVE, GATE, TEMPO}
 use Rattle.player_memory.specs.declared.labels.TheConstants.{FILTER_POINTER, VOLUME, FUNK_ONE, FUNK_TWO, ADS, SRS}
-use Rattle.player_memory.specs.declared.labels.TheConstants.{WAVES, FILTERS, DELAYS, GATE_TIMERS, FIRST_WAVES}
+use Rattle.player_memory.specs.declared.labels.TheConstants.{WAVES, FILTERS, DELAYS, GATE_TIMERS, ONE_WAVE}
 use Rattle.player_memory.specs.Rooms.{IsRoom, MayUse}
 use Rattle.player_memory.specs.Playing.{own_at, shared_at, IsPlaying, IsAtVoice}
 use Rattle.player_text.specs.declared.joints.TheConstants.{SOUNDS, TICKED}
-use Rattle.tick_code.specs.TickBlock.{tick_tree, HasInstrument, HasTickLists, IsInLists, KeepsCommand, KeepsRow}
+use Rattle.tick_code.specs.TickBlock.{tick_tree, HasInstrument, HasTickLists, HasOneWave, IsInLists}
+use Rattle.tick_code.specs.TickBlock.{KeepsCommand, KeepsRow}
 use Rattle.tick_code.specs.TickBlock.{KeepsTick, Ticks}
 
 -- ---- the memory
 
 -- the variables from $1000 on, and the lists far behind them; of what a song may ask for, commands that set the
--- tempo of a voice are kept, and an instrument's vibrato delay and filter program
+-- tempo of a voice are kept, and an instrument's vibrato delay, filter program and gateoff timer
 abbrev pub laid : Layout
 laid = record {
   address = λ label. if nat_lt label VARIABLES then 0x1000 + label else 0x2000 + 16 * label;
   pointer = 0xFC;
   holds = λ condition. condition == SET_TEMPO || condition == VOICE_TEMPO || condition == ROW_ONCE
-      || condition == ROW_COMMAND || condition == VIBRATO_DELAY || condition == NOTE_FILTER;
+      || condition == ROW_COMMAND || condition == VIBRATO_DELAY || condition == NOTE_FILTER || condition == OWN_TIMER;
   may_read = λ place. true;
   may_write = λ place. true;
 }
@@ -79,7 +81,7 @@ memory = stored ((laid.address (TICK + 7), 1) ∷ (laid.address (INSTRUMENT + 7)
     ∷ (laid.address (TEMPO + 7), 5) ∷ (laid.address (TEMPO + 14), 5) ∷ (laid.address VOLUME, 15)
     ∷ (laid.address FUNK_ONE, 8) ∷ (laid.address FUNK_TWO, 5) ∷ (laid.address ADS + 1, 0x12)
     ∷ (laid.address SRS + 1, 0x34) ∷ (laid.address WAVES + 1, 1) ∷ (laid.address FILTERS + 1, 2)
-    ∷ (laid.address DELAYS + 1, 2) ∷ (laid.address GATE_TIMERS + 1, 0x42) ∷ (laid.address FIRST_WAVES + 1, 9) ∷ [])
+    ∷ (laid.address DELAYS + 1, 2) ∷ (laid.address GATE_TIMERS + 1, 0x42) ∷ (laid.address ONE_WAVE, 9) ∷ [])
 
 abbrev pub desk : Desk
 desk = record {
@@ -110,6 +112,7 @@ pub record IsMet : Type 0 where
   pub playing : IsPlaying laid 1 waiting memory
   pub at_row : IsInLists 1 0 waiting.voice
   pub keeps : KeepsTick laid 2 look waiting
+  pub one_wave : HasOneWave laid 1 memory sound
 
 abbrev pub done : Ran
 done = ran each_one laid tick_tree desk
@@ -225,16 +228,21 @@ pub record ListsAreMet : Type 0 where
 
 -- the sound with other bytes than those in the memory where no line is kept that reads them
 abbrev pub unread_sound : Instrument
-unread_sound = record sound { pulse = 7; vibrato = 8 }
+unread_sound = record sound { pulse = 7; vibrato = 8; first_wave = 7 }
 
--- That instrument is there, too. Where its line is kept, its pulse program isn't, nor its vibrato; nor is one with
--- another filter program or with another delay.
+-- That instrument is there, too. Where its line is kept, its pulse program isn't, nor its vibrato, nor its first
+-- waveform; nor is one with another filter program, another delay or another gateoff timer, or, where one first waveform
+-- stands alone, with another one.
 pub record FieldsAreRead : Type 0 where
   pub unread : HasInstrument laid 1 memory (with_instrument unread_sound) 1
   pub pulse : ¬ HasInstrument (with_one NOTE_PULSE) 1 memory (with_instrument unread_sound) 1
   pub vibrato : ¬ HasInstrument (with_one NOTE_VIBRATO) 1 memory (with_instrument unread_sound) 1
   pub filter : ¬ HasInstrument laid 1 memory (with_instrument (record sound { filter = 7 })) 1
   pub delay : ¬ HasInstrument laid 1 memory (with_instrument (record sound { vibrato_delay = 7 })) 1
+  pub timer : ¬ HasInstrument laid 1 memory (with_instrument (record sound { gate_timer = 2 })) 1
+  pub wave : ¬ HasInstrument (with_one OWN_WAVE) 1 memory (with_instrument unread_sound) 1
+  pub one_wave : ¬ HasOneWave laid 1 memory unread_sound
+  pub own_wave : HasOneWave (with_one OWN_WAVE) 1 memory unread_sound
 
 -- ---- what it isn't
 

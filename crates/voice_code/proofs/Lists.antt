@@ -7,7 +7,7 @@ use Rattle.asked_numbers.specs.declared.range.NumberRange.{NumberRange}
 use Rattle.scopes.specs.Desk.{Layout}
 use Rattle.player_memory.specs.declared.conditions.TheConstants.{NOTE_DEPENDENT}
 use Rattle.player_memory.specs.Rooms.{IsElsewhere}
-use Rattle.player_memory.specs.Playing.{place_in, IsListed, IsRow, IsTable, SlidesStay}
+use Rattle.player_memory.specs.Playing.{place_in, IsListed, IsAlone, IsRow, IsTable, SlidesStay}
 use Rattle.wave_code.specs.WaveBlock.{HasWaveTable}
 use Rattle.slide_code.specs.SlideBlock.{HasHalfTones, HasSpeed, HasSpeeds}
 use Rattle.pulse_code.specs.PulseBlock.{HasPulseTable}
@@ -25,6 +25,15 @@ listed_stays layout rows look one two label number byte stay listed = record {
   elsewhere = listed.elsewhere;
   reads = listed.reads;
   is = stay.elsewhere (place_in layout label number) listed.elsewhere listed.reads ∙ listed.is;
+}
+
+-- and so does one that stands alone
+pub alone_stays : (layout : Layout) (rows : ℕ) (look : LookUps) (one two : ℕ → ℕ) (label byte : ℕ) →
+    ListsStay layout rows look one two → IsAlone layout rows one label byte → IsAlone layout rows two label byte
+alone_stays layout rows look one two label byte stay has = record {
+  elsewhere = has.elsewhere;
+  reads = has.reads;
+  is = stay.elsewhere (layout.address label) has.elsewhere has.reads ∙ has.is;
 }
 
 row_stays : (layout : Layout) (rows : ℕ) (look : LookUps) (one two : ℕ → ℕ) (lefts rights number : ℕ)

@@ -6,10 +6,10 @@ use Rattle.play_model.specs.LookUps.{LookUps}
 use Rattle.play_model.specs.State.{Playing}
 use Rattle.scopes.specs.Desk.{Layout}
 use Rattle.player_memory.specs.declared.labels.TheConstants.{ADS, SRS, WAVES, PULSES, FILTERS, VIBRATOS, DELAYS}
-use Rattle.player_memory.specs.declared.labels.TheConstants.{GATE_TIMERS, FIRST_WAVES}
+use Rattle.player_memory.specs.declared.labels.TheConstants.{GATE_TIMERS, FIRST_WAVES, ONE_WAVE}
 use Rattle.tick_code.specs.TickBlock.{HasInstrument, HasTickLists}
 use Rattle.voice_code.specs.VoiceBlock.{Counts, HasVoiceLists, VoiceIsReady, effected}
-use Rattle.voice_code.proofs.Lists.{ListsStay, listed_stays, table_stays, waves_stay, tones_stay, speeds_stay}
+use Rattle.voice_code.proofs.Lists.{ListsStay, listed_stays, alone_stays, table_stays, waves_stay, tones_stay, speeds_stay}
 use Rattle.voice_code.proofs.Lists.{pulses_stay}
 use Rattle.voice_code.proofs.SongLists.{rows_stay}
 
@@ -24,8 +24,8 @@ instrument_stays layout rows look one two number stay has = record {
   filter = λ kept. listed_stays layout rows look one two FILTERS number _ stay (has.filter kept);
   vibrato = λ kept. listed_stays layout rows look one two VIBRATOS number _ stay (has.vibrato kept);
   delay = λ kept. listed_stays layout rows look one two DELAYS number _ stay (has.delay kept);
-  gate_timer = listed_stays layout rows look one two GATE_TIMERS number _ stay has.gate_timer;
-  first_wave = listed_stays layout rows look one two FIRST_WAVES number _ stay has.first_wave;
+  gate_timer = λ kept. listed_stays layout rows look one two GATE_TIMERS number _ stay (has.gate_timer kept);
+  first_wave = λ kept. listed_stays layout rows look one two FIRST_WAVES number _ stay (has.first_wave kept);
   gate_timer_byte = has.gate_timer_byte;
 }
 
@@ -49,7 +49,7 @@ voice_lists_stay layout rows look one two counts stay has = record {
   pulses = pulses_stay layout rows look one two counts.pulses stay has.pulses;
 }
 
--- of what the step is ready for, the fetch alone reads memory
+-- of what the step is ready for, the first waveform and the fetch alone read memory
 pub voice_stays_ready : (layout : Layout) (rows : ℕ) (look : LookUps) (one two : ℕ → ℕ) (channel : ℕ) (o : Options)
     (packed : ℕ → List ℕ) (order : Order) (counts : Counts) (s : Playing) → ListsStay layout rows look one two →
     VoiceIsReady layout rows one channel o look packed order counts s →
@@ -57,6 +57,7 @@ pub voice_stays_ready : (layout : Layout) (rows : ℕ) (look : LookUps) (one two
 voice_stays_ready layout rows look one two channel o packed order counts s stay ready = record {
   lists = ready.lists;
   keeps = ready.keeps;
+  first_wave = λ now out. alone_stays layout rows look one two ONE_WAVE _ stay (ready.first_wave now out);
   wave = ready.wave;
   effect = ready.effect;
   fetch = λ waits.

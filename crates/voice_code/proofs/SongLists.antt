@@ -5,14 +5,14 @@ use Rattle.song_model.specs.Walk.{played}
 use Rattle.play_model.specs.LookUps.{LookUps}
 use Rattle.play_model.specs.State.{Voice}
 use Rattle.scopes.specs.Desk.{Layout}
-use Rattle.player_memory.specs.declared.labels.TheConstants.{GATE_TIMERS}
+use Rattle.player_memory.specs.declared.labels.TheConstants.{GATE_TIMERS, ONE_TIMER}
 use Rattle.player_memory.specs.declared.variables.TheConstants.{SONG_BYTES}
 use Rattle.player_memory.specs.Playing.{AreSame}
 use Rattle.player_memory.specs.Fetching.{AreListed, IsPattern}
 use Rattle.fetch_code.specs.FetchBlock.{HasOrderlist, HasRows, next_instrument}
 use Rattle.player_memory.specs.Fetching.{IsInSong}
 use Rattle.fetch_code.proofs.Laws.{song_stays}
-use Rattle.voice_code.proofs.Lists.{ListsStay, listed_stays}
+use Rattle.voice_code.proofs.Lists.{ListsStay, listed_stays, alone_stays}
 use Rattle.voice_code.proofs.SongFields.{InSong, in_song}
 
 bytes_stay : (layout : Layout) (rows : ℕ) (look : LookUps) (one two : ℕ → ℕ) (label : ℕ) (bytes : List ℕ) →
@@ -52,7 +52,9 @@ pub rows_stay : (layout : Layout) (rows : ℕ) (look : LookUps) (one two : ℕ �
     HasRows layout rows two look packed order v
 rows_stay layout rows look one two packed order v stay has = record {
   pattern = λ n. pattern_stays layout rows look one two (played order n).pattern _ stay (has.pattern n);
-  timer = listed_stays layout rows look one two GATE_TIMERS (next_instrument look order v) _ stay has.timer;
+  timer = λ kept.
+      listed_stays layout rows look one two GATE_TIMERS (next_instrument look order v) _ stay (has.timer kept);
+  one_timer = λ out. alone_stays layout rows look one two ONE_TIMER _ stay (has.one_timer out);
   timer_byte = has.timer_byte;
   tick = has.tick;
   gate_timer = has.gate_timer;

@@ -249,7 +249,7 @@ steps layout rows voice label o look packed order counts s desk start =
     does =
         tick_block_steps layout rows voice counts.instruments counts.speeds look s desk start.ground.room
         start.ground.uses start.lists.ticks start.ground.few start.at_voice start.plays start.ready.lists
-        start.ready.keeps
+        start.ready.keeps start.ready.first_wave
 
     stage : Stage layout rows voice look desk run.desk (tick_step (voice + 1) look s).playing
     stage = stage_of layout rows voice look desk (there run) _ does.plays

@@ -20,6 +20,10 @@ voices_are_worked = record {
     sr_is = refl;
   };
   rests = record { ends = refl; tick_is = refl; rest_is = refl; cost_is = refl };
+  by_one = record { ends = refl; tick_is = refl; rest_is = refl; cost_is = refl };
+  not_by_one = record { ends = refl; tick_is = refl; rest_is = refl; cost_is = refl };
+  by_own = record { ends = refl; tick_is = refl; rest_is = refl; cost_is = refl };
+  not_by_own = record { ends = refl; tick_is = refl; rest_is = refl; cost_is = refl };
   pulsing_waits = record { ends = refl; tick_is = refl; rest_is = refl; cost_is = refl };
   pulsing_sounds = record {
     low_is = refl;

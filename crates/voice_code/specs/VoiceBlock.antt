@@ -21,7 +21,7 @@ use Rattle.player_memory.specs.Rooms.{IsRoom, IsElsewhere, MayUse}
 use Rattle.player_memory.specs.Playing.{own_at, shared_at, IsPlaying, IsAtVoice, SlidesStay}
 use Rattle.player_text.specs.declared.joints.TheConstants.{PITCHED, COMMANDED}
 use Rattle.player_text.specs.Texts.{voice_tree}
-use Rattle.tick_code.specs.TickBlock.{HasTickLists, IsInLists, KeepsTick}
+use Rattle.tick_code.specs.TickBlock.{IsRowDone, HasTickLists, HasOneWave, IsInLists, KeepsTick}
 use Rattle.wave_code.specs.WaveBlock.{HasWaveTable, IsOnWave, KeepsWave, its_row, begun, way_of}
 use Rattle.wave_code.specs.CommandBlock.{KeepsOnce, IsOnce, lent_out}
 use Rattle.wave_code.specs.EffectBlock.{HasEffect, KeepsEffect, running, left_out}
@@ -112,12 +112,14 @@ pub record KeepsOptions (layout : Layout) (o : Options) : Type 0 where
   pub pulse : layout.holds SKIP_PULSE ≡ o.skip_pulse
   pub first : layout.holds SKIP_FIRST ≡ o.skip_first
 
--- What each step of the voice comes to: where a note has started the step is over; else the wave step, the effect step,
+-- What each step of the voice comes to: where its row is done and one first waveform stands for all instruments, that is
+-- its own; where a note has started the step is over; else the wave step, the effect step,
 -- the fetch and the pulse step follow, and are ready for the state that they find.
 pub record VoiceIsReady (layout : Layout) (rows : ℕ) (at : ℕ → ℕ) (channel : ℕ) (o : Options) (look : LookUps)
     (packed : ℕ → List ℕ) (order : Order) (counts : Counts) (s : Playing) : Type 0 where
   pub lists : IsInLists counts.instruments counts.speeds s.voice
   pub keeps : KeepsTick layout channel look s
+  pub first_wave : IsRowDone s → HasOneWave layout rows at (look.instrument s.voice.instrument)
   pub wave : (tick_step channel look s).started ≡ false →
       WaveIsReady layout look counts (tick_step channel look s).playing
   pub effect : (tick_step channel look s).started ≡ false → (waved channel look s).effect ≡ true →

@@ -7,29 +7,36 @@ use Rattle.play_model.specs.LookUps.{LookUps}
 use Rattle.play_model.specs.State.{Playing, start_voice, start_common}
 use Rattle.scopes.specs.Desk.{Layout}
 use Rattle.scopes.specs.Meaning.{Outcome, Done, Left, Ran, each_one, ended, ran}
-use Rattle.player_memory.specs.declared.conditions.TheConstants.{PULSE_TABLE}
+use Rattle.player_memory.specs.declared.conditions.TheConstants.{PULSE_TABLE, OWN_TIMER}
 use Rattle.player_memory.specs.declared.labels.TheConstants.{TICK, WAVE, AD, SR, FREQ_LOW, FREQ_HIGH, PULSE_LOW}
-use Rattle.player_memory.specs.declared.labels.TheConstants.{PULSE_HIGH, GATE_TIMER, OFFSET, REST, LENT}
+use Rattle.player_memory.specs.declared.labels.TheConstants.{PULSE_HIGH, GATE_TIMER, OFFSET, REST, LENT, ONE_TIMER}
 use Rattle.player_memory.specs.WorkedMemory.{at_1000}
 use Rattle.player_memory.specs.WorkedPlays.{its_memory, its_desk, with_variable}
 use Rattle.player_text.specs.declared.joints.TheConstants.{SOUNDS}
 use Rattle.player_text.specs.Texts.{voice_tree}
 use Rattle.voice_code.specs.VoiceBlock.{VoicePlays}
 
--- no condition holds, or that of the pulse table alone
+-- no condition holds, or that of the pulse table, or of gateoff timers of their own, alone
 abbrev pub bare : Layout
 bare = record at_1000 { holds = λ condition. false }
 
 abbrev pub pulsing : Layout
 pulsing = record at_1000 { holds = λ condition. nat_eq condition PULSE_TABLE }
 
--- the second voice, in the middle of a row, with bytes for its registers
+abbrev pub timing : Layout
+timing = record at_1000 { holds = λ condition. nat_eq condition OWN_TIMER }
+
+-- the second voice, in the middle of a row, with bytes for its registers, and its gateoff timer, which also stands for all
 abbrev pub waiting : ℕ → ℕ
 waiting =
-    with_variable (TICK + 7) 3 (with_variable (GATE_TIMER + 7) 1 (with_variable (OFFSET + 7) 5
+    with_variable (TICK + 7) 3 (with_variable (GATE_TIMER + 7) 1 (with_variable ONE_TIMER 1 (with_variable (OFFSET + 7) 5
     (with_variable (WAVE + 7) 0x41 (with_variable (AD + 7) 0x09 (with_variable (SR + 7) 0xA0
     (with_variable (FREQ_LOW + 7) 0x12 (with_variable (FREQ_HIGH + 7) 0x34
-    (with_variable (PULSE_LOW + 7) 0x56 (with_variable (PULSE_HIGH + 7) 0x18 its_memory)))))))))
+    (with_variable (PULSE_LOW + 7) 0x56 (with_variable (PULSE_HIGH + 7) 0x18 its_memory))))))))))
+
+-- a rest is due
+abbrev pub resting : ℕ → ℕ
+resting = with_variable (TICK + 7) 2 (with_variable (REST + 7) 4 waiting)
 
 abbrev pub voiced_in : Layout → (ℕ → ℕ) → Ran
 voiced_in layout at = ran each_one layout voice_tree (its_desk 7 false at)
@@ -58,7 +65,12 @@ pub record IsVoiced (run : Ran) (tick rest cost : ℕ) : Type 0 where
 pub record VoicesAreWorked : Type 0 where
   pub waits : IsVoiced (voiced waiting) 2 0 24
   pub sounds : HasSounds (voiced waiting) 0x12 0x34 0 0 0x40 0x09 0xA0
-  pub rests : IsVoiced (voiced (with_variable (TICK + 7) 2 (with_variable (REST + 7) 4 waiting))) 1 3 26
+  pub rests : IsVoiced (voiced resting) 1 3 26
+  -- it is due by the timer that stands for all, or by its own where the lines for that are kept, and not by the other
+  pub by_one : IsVoiced (voiced (with_variable (GATE_TIMER + 7) 5 resting)) 1 3 26
+  pub not_by_one : IsVoiced (voiced (with_variable ONE_TIMER 5 resting)) 1 4 26
+  pub by_own : IsVoiced (voiced_in timing (with_variable ONE_TIMER 5 resting)) 1 3 26
+  pub not_by_own : IsVoiced (voiced_in timing (with_variable (GATE_TIMER + 7) 5 resting)) 1 4 26
   pub pulsing_waits : IsVoiced (voiced_in pulsing waiting) 2 0 28
   pub pulsing_sounds : HasSounds (voiced_in pulsing waiting) 0x12 0x34 0x56 0x08 0x40 0x09 0xA0
   pub first : (voiced waiting).desk.at 0xD400 ≡ 0

@@ -1,7 +1,7 @@
 -- A voice in its song, and the code that fetches its row, worked.
 use Rattle.std.proofs.Common.{◌≡◌, ℕ, zero, suc, ◌+◌, ◌-◌, ◌%◌, ◌<◌, ◌≤◌, true, false}
 use Rattle.std.proofs.Common.{nat_lt, nat_le}
-use Rattle.std.proofs.Common.{pos, All, [], ◌∷◌, slice_index, slice_index_or, refl, sym, subst}
+use Rattle.std.proofs.Common.{pos, All, [], ◌∷◌, slice_index, slice_index_or, refl, sym, ap, ◌∙◌, subst}
 use Rattle.std.proofs.Common.{arith}
 use Rattle.std.proofs.lemmas.Bool.{cond_both, le-leb, lt-ltb}
 use Rattle.std.proofs.lemmas.List.Elements.{All-nil, All-cons}
@@ -14,6 +14,7 @@ use Rattle.base.proofs.Laws.{All-get_or_any}
 use Rattle.packed_form.specs.declared.entries.EntryKind.TheVariants.{Note, Rests}
 use Rattle.packed_form.specs.PackedSpells.{PackedSpells}
 use Rattle.packed_form.specs.WalkCount.{looks_from}
+use Rattle.scopes.specs.Desk.{Layout}
 use Rattle.player_memory.specs.declared.labels.TheConstants.{ORDER_PLACE, TRANSPOSE, REPEAT}
 use Rattle.player_memory.specs.declared.labels.TheConstants.{ORDERS, PATTERNS}
 use Rattle.player_memory.specs.declared.labels.TheConstants.{PATTERNS_LOW, PATTERNS_HIGH, GATE_TIMERS}
@@ -25,8 +26,10 @@ use Rattle.player_memory.specs.Fetching.{NotWalked, AtEntry, InRun}
 use Rattle.player_memory.specs.WorkedFetching.{its_rows, its_packed}
 use Rattle.player_memory.proofs.Laws.{IsLaid, room_in, uses_in, behind_slides, playing_in, note_is, each_is}
 use Rattle.fetch_code.specs.FetchBlock.{IsKept}
-use Rattle.worked_blocks.specs.WorkedFetches.{laid, its_order, at_start, at_first, in_run, at_note}
-use Rattle.worked_blocks.specs.WorkedGrounds.{looked_up, on_row, on, IsSung, HasOrderIn, HasRowsIn, GroundsAreWorked}
+use Rattle.worked_blocks.specs.WorkedFetches.{laid, one_timed, its_order, at_start, at_first, in_run, at_note}
+use Rattle.worked_blocks.specs.WorkedFetches.{with_one_timer}
+use Rattle.worked_blocks.specs.WorkedGrounds.{looked_up, on_row, on, IsSung, HasOrderIn, HasRowsIn, HasNoteIn}
+use Rattle.worked_blocks.specs.WorkedGrounds.{GroundsAreWorked}
 
 -- ---- the room, and the voice
 
@@ -121,27 +124,36 @@ reads_at : (place : ℕ) → nat_le 0x1000 place ≡ true → nat_lt place 0x120
     (laid false).may_read place ≡ true
 reads_at place from to = rw (from, to) refl
 
-listed : (label number place byte : ℕ) → place_in (laid false) label number ≡ place → at_note 2 place ≡ byte →
-    0x1108 ≤ place → place < 0x1200 → IsListed (laid false) 4 (at_note 2) label number byte
-listed label number place byte is holds from to = record {
-  elsewhere = rw is (behind_slides (laid false) is_laid place from (omega (arith, to)));
-  reads = rw is (reads_at place (le-leb 0x1000 place (omega (arith, from))) (lt-ltb place 0x1200 to));
+-- a layout whose variables stand there, too, and whose code may read the same
+record IsAlike (layout : Layout) : Type 0 where
+  stands : IsLaid layout
+  reads : layout.may_read ≡ (laid false).may_read
+
+listed : (layout : Layout) → IsAlike layout → (at : ℕ → ℕ) (label number place byte : ℕ) →
+    place_in layout label number ≡ place → at place ≡ byte → 0x1108 ≤ place → place < 0x1200 →
+    IsListed layout 4 at label number byte
+listed layout alike at label number place byte is holds from to = record {
+  elsewhere = rw is (behind_slides layout alike.stands place from (omega (arith, to)));
+  reads =
+      ap layout.may_read is ∙ ap (λ may. may place) alike.reads
+      ∙ reads_at place (le-leb 0x1000 place (omega (arith, from))) (lt-ltb place 0x1200 to);
   is = rw is holds;
 }
 
-order_bytes : AreListed (laid false) 4 (at_note 2) ORDERS (0xF2 ∷ 0xD1 ∷ 0 ∷ 0xFF ∷ 0 ∷ [])
-order_bytes zero few = listed ORDERS 0 0x1130 0xF2 refl refl (omega arith) (omega arith)
-order_bytes (suc zero) few = listed ORDERS 1 0x1131 0xD1 refl refl (omega arith) (omega arith)
-order_bytes (suc (suc zero)) few = listed ORDERS 2 0x1132 0 refl refl (omega arith) (omega arith)
-order_bytes (suc (suc (suc zero))) few = listed ORDERS 3 0x1133 0xFF refl refl (omega arith) (omega arith)
-order_bytes (suc (suc (suc (suc zero)))) few = listed ORDERS 4 0x1134 0 refl refl (omega arith) (omega arith)
-order_bytes (suc (suc (suc (suc (suc more))))) few = absurd (omega (arith, few))
+laid_alike : IsAlike (laid false)
+laid_alike = record { stands = is_laid; reads = refl }
 
-pattern_bytes : AreListed (laid false) 4 (at_note 2) PATTERNS (0xC1 ∷ 0x60 ∷ 0 ∷ [])
-pattern_bytes zero few = listed PATTERNS 0 0x1140 0xC1 refl refl (omega arith) (omega arith)
-pattern_bytes (suc zero) few = listed PATTERNS 1 0x1141 0x60 refl refl (omega arith) (omega arith)
-pattern_bytes (suc (suc zero)) few = listed PATTERNS 2 0x1142 0 refl refl (omega arith) (omega arith)
-pattern_bytes (suc (suc (suc more))) few = absurd (omega (arith, few))
+here : (label number place byte : ℕ) → place_in (laid false) label number ≡ place → at_note 2 place ≡ byte →
+    0x1108 ≤ place → place < 0x1200 → IsListed (laid false) 4 (at_note 2) label number byte
+here = listed (laid false) laid_alike (at_note 2)
+
+order_bytes : AreListed (laid false) 4 (at_note 2) ORDERS (0xF2 ∷ 0xD1 ∷ 0 ∷ 0xFF ∷ 0 ∷ [])
+order_bytes zero few = here ORDERS 0 0x1130 0xF2 refl refl (omega arith) (omega arith)
+order_bytes (suc zero) few = here ORDERS 1 0x1131 0xD1 refl refl (omega arith) (omega arith)
+order_bytes (suc (suc zero)) few = here ORDERS 2 0x1132 0 refl refl (omega arith) (omega arith)
+order_bytes (suc (suc (suc zero))) few = here ORDERS 3 0x1133 0xFF refl refl (omega arith) (omega arith)
+order_bytes (suc (suc (suc (suc zero)))) few = here ORDERS 4 0x1134 0 refl refl (omega arith) (omega arith)
+order_bytes (suc (suc (suc (suc (suc more))))) few = absurd (omega (arith, few))
 
 -- ---- the orderlist
 
@@ -221,25 +233,71 @@ its_spelling = record {
   count = record { least = omega arith; most = omega arith };
 }
 
-pattern_here : (look : LookUps) → IsPattern (laid false) 4 (at_note 2) (looked_up look) 0 (its_packed 0)
-pattern_here look = record {
-  spells = its_spelling;
-  few = omega arith;
-  listed = pattern_bytes;
-  from = omega arith;
-  to = omega arith;
-  low = listed PATTERNS_LOW 0 0x1110 0x3F refl refl (omega arith) (omega arith);
-  high = listed PATTERNS_HIGH 0 0x1118 0x11 refl refl (omega arith) (omega arith);
-  before = behind_slides (laid false) is_laid 0x113F (omega arith) (omega arith);
-  reads_before = refl;
+-- it stands there in such a layout, in a memory with the same bytes
+record HasPatternAt (layout : Layout) (at : ℕ → ℕ) : Type 0 where
+  address : layout.address PATTERNS ≡ 0x1140
+  lows : layout.address PATTERNS_LOW ≡ 0x1110
+  highs : layout.address PATTERNS_HIGH ≡ 0x1118
+  low : at 0x1110 ≡ 0x3F
+  high : at 0x1118 ≡ 0x11
+  first : at 0x1140 ≡ 0xC1
+  second : at 0x1141 ≡ 0x60
+  last : at 0x1142 ≡ 0
+
+pattern_bytes : (layout : Layout) → IsAlike layout → (at : ℕ → ℕ) → HasPatternAt layout at →
+    AreListed layout 4 at PATTERNS (0xC1 ∷ 0x60 ∷ 0 ∷ [])
+pattern_bytes layout alike at has zero few =
+    listed layout alike at PATTERNS 0 0x1140 0xC1 (rw has.address refl) has.first (omega arith) (omega arith)
+pattern_bytes layout alike at has (suc zero) few =
+    listed layout alike at PATTERNS 1 0x1141 0x60 (rw has.address refl) has.second (omega arith) (omega arith)
+pattern_bytes layout alike at has (suc (suc zero)) few =
+    listed layout alike at PATTERNS 2 0x1142 0 (rw has.address refl) has.last (omega arith) (omega arith)
+pattern_bytes layout alike at has (suc (suc (suc more))) few = absurd (omega (arith, few))
+
+pattern_at : (look : LookUps) (layout : Layout) → IsAlike layout → (at : ℕ → ℕ) → HasPatternAt layout at →
+    IsPattern layout 4 at (looked_up look) 0 (its_packed 0)
+pattern_at look layout alike at has =
+    let address = has.address in record {
+      spells = its_spelling;
+      few = omega arith;
+      listed = pattern_bytes layout alike at has;
+      from = omega (arith, address);
+      to = omega (arith, address);
+      low =
+          rw address
+          (listed layout alike at PATTERNS_LOW 0 0x1110 0x3F (rw has.lows refl) has.low (omega arith) (omega arith));
+      high =
+          rw address
+          (listed layout alike at PATTERNS_HIGH 0 0x1118 0x11 (rw has.highs refl) has.high (omega arith) (omega arith));
+      before = rw address (behind_slides layout alike.stands 0x113F (omega arith) (omega arith));
+      reads_before = rw (address, alike.reads) refl;
+    }
+
+-- each play is one of it
+patterns_at : (look : LookUps) (layout : Layout) → IsAlike layout → (at : ℕ → ℕ) → HasPatternAt layout at →
+    (n : ℕ) → IsPattern layout 4 at (looked_up look) (played its_order n).pattern
+    (its_packed (played its_order n).pattern)
+patterns_at look layout alike at has n =
+    subst (λ p. IsPattern layout 4 at (looked_up look) p (its_packed p)) (sym (plays_zero n))
+    (pattern_at look layout alike at has)
+
+pattern_here : HasPatternAt (laid false) (at_note 2)
+pattern_here = record {
+  address = refl;
+  lows = refl;
+  highs = refl;
+  low = refl;
+  high = refl;
+  first = refl;
+  second = refl;
+  last = refl;
 }
 
 pub rows : (look : LookUps) → HasRowsIn (at_note 2) (looked_up look) (on_row 2)
 rows look = record {
-  pattern = λ n.
-      subst (λ p. IsPattern (laid false) 4 (at_note 2) (looked_up look) p (its_packed p)) (sym (plays_zero n))
-      (pattern_here look);
-  timer = listed GATE_TIMERS 1 0x1121 2 refl refl (omega arith) (omega arith);
+  pattern = patterns_at look (laid false) laid_alike (at_note 2) pattern_here;
+  timer = λ kept. here GATE_TIMERS 1 0x1121 2 refl refl (omega arith) (omega arith);
+  one_timer = λ out. absurd (cc out);
   timer_byte = omega arith;
   tick = omega arith;
   gate_timer = omega arith;
@@ -264,6 +322,56 @@ rows look = record {
   };
 }
 
+-- the same with one timer for all instruments
+one_alike : IsAlike one_timed
+one_alike =
+    record { stands = record { variables = refl; low = refl; high = refl; pointer = refl }; reads = refl }
+
+pattern_alone : HasPatternAt one_timed (with_one_timer 2 (at_note 2))
+pattern_alone = record {
+  address = refl;
+  lows = refl;
+  highs = refl;
+  low = refl;
+  high = refl;
+  first = refl;
+  second = refl;
+  last = refl;
+}
+
+one_timer : (look : LookUps) → HasNoteIn one_timed (with_one_timer 2 (at_note 2)) look
+one_timer look = record {
+  pattern = patterns_at look one_timed one_alike (with_one_timer 2 (at_note 2)) pattern_alone;
+  timer = λ kept. absurd (cc kept);
+  one_timer = λ out. record {
+    elsewhere = behind_slides one_timed one_alike.stands 0x1128 (omega arith) (omega arith);
+    reads = refl;
+    is = refl;
+  };
+  timer_byte = omega arith;
+  tick = omega arith;
+  gate_timer = omega arith;
+  command = omega arith;
+  keeps = record {
+    gate = λ is. refl;
+    tone = λ is. refl;
+    legato = λ is. absurd (is refl);
+    soft = λ is. absurd (is.1 refl);
+    shared = record {
+      tone = λ on. refl;
+      slide = λ on. refl;
+      once = λ on. refl;
+      delay = λ on. refl;
+      command = λ on. refl;
+      legato = λ on. absurd (cc on);
+      soft = λ on. absurd (cc on);
+      filter = λ on. refl;
+      control = λ on. refl;
+      cutoff = λ on. refl;
+    };
+  };
+}
+
 pub grounds_are_worked : (look : LookUps) → GroundsAreWorked look
 grounds_are_worked look = record {
   room = room;
@@ -277,4 +385,5 @@ grounds_are_worked look = record {
   note = note look;
   orderlist = orderlist;
   rows = rows look;
+  one_timer = one_timer look;
 }

@@ -1,6 +1,6 @@
 -- A packed song of one note in memory, worked by hand.
 use Rattle.std.proofs.Common.{◌≡◌, ◌⊎◌, ℕ, zero, suc, ◌+◌, ◌-◌, ◌<◌, ◌≤◌, ◌&&◌, Bool}
-use Rattle.std.proofs.Common.{true, nat_eq, nat_le, nat_lt, inl, inr, refl, sym, ap, ◌∙◌, arith}
+use Rattle.std.proofs.Common.{true, false, nat_eq, nat_le, nat_lt, inl, inr, refl, sym, ap, ◌∙◌, arith}
 use Rattle.std.proofs.lemmas.Bool.Decides.{nat_tests}
 use Rattle.std.proofs.lemmas.Bool.{and_parts, leb-true, ltb-true, eqb-true, agree_below, agree_below_at, cases_lt}
 use Rattle.song_model.specs.LookUp.{table_row, instrument_at, playable_subtune}
@@ -18,7 +18,8 @@ use Rattle.player_memory.specs.Holds.{IsPlayerLayout, PatternStands}
 use Rattle.player_memory.specs.Rooms.{IsRoom, IsElsewhere, MayUse, MayUseSlide}
 use Rattle.player_memory.specs.Playing.{place_in, IsListed}
 use Rattle.player_memory.specs.SongLists.{SongList, FrequencyLows, FrequencyHighs, Lefts, Rights, Periods, Instruments}
-use Rattle.player_memory.specs.SongLists.{OrderLows, OrderHighs, PatternLows, PatternHighs, OrderBytes, PatternBytes}
+use Rattle.player_memory.specs.SongLists.{OneTimer, OneWave, OrderLows, OrderHighs, PatternLows, PatternHighs}
+use Rattle.player_memory.specs.SongLists.{OrderBytes, PatternBytes}
 use Rattle.player_memory.specs.SongLists.{HasNumber, HasSongLists, list_label, list_byte, ListsStand}
 use Rattle.init_code.specs.InitBlock.{IsOutOf}
 use Rattle.frame_code.specs.InitBlock.{IsCalledWith, ClearsVariables}
@@ -119,6 +120,14 @@ instruments_stand any (suc (suc (suc (suc (suc (suc (suc zero))))))) few = refl
 instruments_stand any (suc (suc (suc (suc (suc (suc (suc (suc zero)))))))) few = refl
 instruments_stand any (suc (suc (suc (suc (suc (suc (suc (suc (suc more))))))))) few = absurd (omega (arith, few))
 
+one_timer_stands : (any : PackedSong) → all_stand any OneTimer 0 1 ≡ true
+unfolding instrument_at
+one_timer_stands any = refl
+
+one_wave_stands : (any : PackedSong) → all_stand any OneWave 0 1 ≡ true
+unfolding instrument_at
+one_wave_stands any = refl
+
 orders_stand : (any : PackedSong) (subtune channel : ℕ) → subtune < 1 → channel < 3 →
     all_stand any (OrderBytes subtune channel) 0 3 ≡ true
 orders_stand any zero zero one few = refl
@@ -152,6 +161,8 @@ lists_stand any Periods number is has = here any Periods 0 1 refl number has.fro
 lists_stand any (Instruments field) number is has =
     here any (Instruments field) 1 1 (instruments_stand any field (read_below (note_packed any) field is)) number
     has.from has.to
+lists_stand any OneTimer number is has = here any OneTimer 0 1 (one_timer_stands any) number has.from has.to
+lists_stand any OneWave number is has = here any OneWave 0 1 (one_wave_stands any) number has.from has.to
 lists_stand any OrderLows number is has = here any OrderLows 0 3 refl number has.from has.to
 lists_stand any OrderHighs number is has = here any OrderHighs 0 3 refl number has.from has.to
 lists_stand any PatternLows number is has = here any PatternLows 0 2 refl number has.from has.to
@@ -229,6 +240,8 @@ player_layout any = record {
     filter_lefts = refl;
   };
   lists = λ list number is has. from_listed (lists_stand any list number is has);
+  timer = omega arith;
+  wave = omega arith;
   orders = orders;
   patterns = patterns;
 }
@@ -346,6 +359,20 @@ no_last any has =
     let is : 1 ≡ 0x11 = (has.lists FrequencyHighs 48 tt (record { from = omega arith; to = omega arith })).is in
     omega (arith, is)
 
+no_timer : (any : PackedSong) → any.facts.own_timer ≡ false →
+    ¬ HasSongLists note_layout (note_packed any) (put note_memory 0x3E00 3)
+unfolding instrument_at
+no_timer any one has =
+    let is : 3 ≡ 2 = (has.lists OneTimer 0 one (record { from = omega arith; to = omega arith })).is in
+    omega (arith, is)
+
+no_first_wave : (any : PackedSong) → any.facts.own_wave ≡ false →
+    ¬ HasSongLists note_layout (note_packed any) (put note_memory 0x3F00 0x11)
+unfolding instrument_at
+no_first_wave any one has =
+    let is : 0x11 ≡ 9 = (has.lists OneWave 0 one (record { from = omega arith; to = omega arith })).is in
+    omega (arith, is)
+
 no_order : (any : PackedSong) → ¬ HasSongLists note_layout (note_packed any) (put note_memory 0x4002 1)
 no_order any has =
     let bytes =
@@ -375,6 +402,8 @@ laid any = record {
   wave = no_wave any;
   first_frequency = no_first any;
   last_frequency = no_last any;
+  one_timer = no_timer any;
+  one_wave = no_first_wave any;
   order = no_order any;
   pattern = no_pattern any;
   slide = no_slide any;

@@ -7,7 +7,7 @@ use Rattle.play_model.specs.LookUps.{LookUps}
 use Rattle.play_model.specs.FetchRow.{fetch_row}
 use Rattle.play_model.specs.Frame.{row_fetched}
 use Rattle.scopes.specs.Meaning.{Outcome, Done}
-use Rattle.player_memory.specs.declared.labels.TheConstants.{TICK, NEW_NOTE, OFFSET, ORDERS}
+use Rattle.player_memory.specs.declared.labels.TheConstants.{TICK, GATE_TIMER, NEW_NOTE, OFFSET, ORDERS}
 use Rattle.player_memory.specs.Playing.{own_at, IsPlaying}
 use Rattle.player_memory.specs.Fetching.{IsPattern, SongStands, Walked, NotWalked, AtEntry, InRun, InLastRun}
 use Rattle.player_memory.specs.WorkedFetching.{its_packed}
@@ -58,8 +58,11 @@ others_are_denied look = record {
   low = λ has. (let byte = (pattern_of look _ has).low.is in omega (arith, byte));
   high = λ has. (let byte = (pattern_of look _ has).high.is in omega (arith, byte));
   spells = λ has. (let least = (has.pattern 0).spells.count.least in omega (arith, least));
-  timer = λ has. (let byte = has.timer.is in omega (arith, byte));
+  timer = λ has. (let byte = (has.timer refl).is in omega (arith, byte));
   timer_byte = λ has. (let byte = has.timer_byte in omega (arith, byte));
+  other_timer = λ has. (let byte = (has.one_timer refl).is in omega (arith, byte));
+  own_timer = λ has. (has.one_timer refl).elsewhere.variables (GATE_TIMER + 7) (omega arith) refl;
+  unread_timer = λ has. absurd (cc ((has.one_timer refl).reads));
   plain = record {
     gate = λ is. elim is [ inl off ↦ absurd (omega (arith, off)) | inr on ↦ absurd (omega (arith, on)) ];
     tone = λ is. absurd (omega (arith, is));

@@ -1,15 +1,16 @@
 -- The code that fetches a row, run by hand: a walk, rests, a note, a play that is repeated, and a row that isn't due.
-use Rattle.std.specs.Prelude.{◌≡◌, ℕ, ◌+◌, ◌||◌, Bool, true, false, not, nat_eq, if◌then◌else◌, []}
+use Rattle.std.specs.Prelude.{◌≡◌, ℕ, ◌+◌, ◌&&◌, ◌||◌, Bool, true, false, not, nat_eq, if◌then◌else◌, []}
 use Rattle.std.specs.Prelude.{◌∷◌}
 use Rattle.code_runs.specs.Runs.{put}
 use Rattle.song_model.specs.declared.orders.Order.{Order}
 use Rattle.scopes.specs.Desk.{Layout}
 use Rattle.scopes.specs.Meaning.{Outcome, Done, Left, Ran, each_one, ran}
-use Rattle.player_memory.specs.declared.conditions.TheConstants.{SKIP_PULSE, SKIP_FIRST}
+use Rattle.player_memory.specs.declared.conditions.TheConstants.{SKIP_PULSE, SKIP_FIRST, LEGATO, NO_HARD_RESTART}
+use Rattle.player_memory.specs.declared.conditions.TheConstants.{OWN_TIMER, HELD_NOTE}
 use Rattle.player_memory.specs.declared.labels.TheConstants.{TICK, GATE_TIMER, NEW_NOTE, REST, OFFSET, PATTERN_LOW}
 use Rattle.player_memory.specs.declared.labels.TheConstants.{PATTERN_HIGH, ORDER_LOW, ORDER_HIGH, ORDER_PLACE}
 use Rattle.player_memory.specs.declared.labels.TheConstants.{TRANSPOSE, REPEAT, GATE_TIMERS, PATTERNS_LOW}
-use Rattle.player_memory.specs.declared.labels.TheConstants.{PATTERNS_HIGH, ORDERS, PATTERNS}
+use Rattle.player_memory.specs.declared.labels.TheConstants.{PATTERNS_HIGH, ORDERS, PATTERNS, ONE_TIMER}
 use Rattle.player_memory.specs.WorkedMemory.{at_1000}
 use Rattle.player_memory.specs.WorkedPlays.{with_variable, its_memory, its_desk}
 use Rattle.player_text.specs.declared.joints.TheConstants.{SOUNDS}
@@ -28,6 +29,16 @@ laid options = record at_1000 {
       else if nat_eq label GATE_TIMERS then 0x1120
       else at_1000.address label;
   holds = λ condition. options || not (nat_eq condition SKIP_PULSE || nat_eq condition SKIP_FIRST);
+}
+
+-- the same without the code that keeps a timer for each voice, and without that which looks at an instrument's before a
+-- note: nothing reads the instruments' timers, and one of all instruments stands at $1128
+abbrev pub one_timed : Layout
+one_timed = record (laid false) {
+  address = λ label. if nat_eq label ONE_TIMER then 0x1128 else (laid false).address label;
+  holds = λ condition. (laid false).holds condition
+      && not (nat_eq condition OWN_TIMER || nat_eq condition HELD_NOTE || nat_eq condition LEGATO
+      || nat_eq condition NO_HARD_RESTART);
 }
 
 -- two half tones up, pattern 0 is played twice, again and again
@@ -65,10 +76,17 @@ at_note tick = with_own OFFSET 2 (at_first tick)
 abbrev pub at_end : ℕ → ℕ → ℕ
 at_end tick = with_own OFFSET 0 (at_first tick)
 
+-- with this timer for all instruments, and another one in the voice's own byte and among the instruments' timers
+abbrev pub with_one_timer : ℕ → (ℕ → ℕ) → ℕ → ℕ
+with_one_timer timer at = put (put (with_own GATE_TIMER 7 at) 0x1121 7) 0x1128 timer
+
 -- ---- runs
 
+abbrev pub fetched_in : Layout → (ℕ → ℕ) → Ran
+fetched_in layout at = ran each_one layout fetch_tree (its_desk 7 false at)
+
 abbrev pub fetched : Bool → (ℕ → ℕ) → Ran
-fetched options at = ran each_one (laid options) fetch_tree (its_desk 7 false at)
+fetched options at = fetched_in (laid options) at
 
 -- the way that a run takes, bytes that it leaves, and in how many instructions
 pub record Told : Type 0 where
@@ -121,6 +139,9 @@ pub record FetchesAreWorked : Type 0 where
   -- a row isn't due, or isn't any longer
   pub later : IsFetched (fetched false (at_first 3)) Done 0 1 3 1 0 5
   pub over : IsFetched (fetched false (at_note 1)) Done 0 2 3 1 0 7
+  -- by one timer of all instruments the note is due, and is fetched without a look at its own; or it isn't due yet
+  pub one_timer : IsFetched (fetched_in one_timed (with_one_timer 2 (at_note 2))) Done 0 0 3 1 0x62 37
+  pub other_timer : IsFetched (fetched_in one_timed (with_one_timer 3 (at_note 2))) Done 0 2 3 1 0 7
   -- the options leave out the pulse step where a row is fetched, and at tick 0 between two patterns
   pub skips : IsFetched (fetched true (at_first 2)) (Left SOUNDS) 1 2 3 1 0 40
   pub between : IsFetched (fetched true (at_first 0)) (Left SOUNDS) 0 1 3 1 0 15

@@ -1,6 +1,6 @@
 -- Memory in which a voice is in its song, so that the law on the code that fetches a row speaks of it, and what it
 -- leaves there; and what is no such memory, or isn't left.
-use Rattle.std.specs.Prelude.{[], ◌∷◌, ◌≡◌, ℕ, ◌+◌, true, false, nat_eq}
+use Rattle.std.specs.Prelude.{[], ◌∷◌, ◌≡◌, ℕ, ◌+◌, ◌&&◌, true, false, not, nat_eq, if◌then◌else◌}
 use Rattle.code_runs.specs.Runs.{put}
 use Rattle.song_model.specs.declared.orders.Order.{Order}
 use Rattle.play_model.specs.LookUps.{LookUps}
@@ -9,7 +9,7 @@ use Rattle.scopes.specs.Desk.{Layout}
 use Rattle.scopes.specs.Meaning.{Done, Left, Ran}
 use Rattle.player_memory.specs.declared.conditions.TheConstants.{LEGATO}
 use Rattle.player_memory.specs.declared.labels.TheConstants.{TICK, NEW_NOTE, OFFSET, ORDER_LOW, ORDER_HIGH, LENT}
-use Rattle.player_memory.specs.declared.labels.TheConstants.{ORDERS}
+use Rattle.player_memory.specs.declared.labels.TheConstants.{ORDERS, GATE_TIMER, ONE_TIMER}
 use Rattle.player_memory.specs.Rooms.{IsRoom, MayUse}
 use Rattle.player_memory.specs.Playing.{own_at, shared_at, IsPlaying, IsAtVoice}
 use Rattle.player_memory.specs.WorkedFetching.{its_rows, its_packed}
@@ -17,7 +17,8 @@ use Rattle.player_memory.specs.WorkedPlays.{its_desk}
 use Rattle.player_text.specs.declared.joints.TheConstants.{SOUNDS}
 use Rattle.fetch_code.specs.FetchBlock.{IsKept, HasOrderlist, HasRows, KeepsNext, left_out, Fetches}
 use Rattle.player_memory.specs.Fetching.{IsInSong}
-use Rattle.worked_blocks.specs.WorkedFetches.{laid, its_order, at_start, at_first, in_run, at_note, with_own, fetched}
+use Rattle.worked_blocks.specs.WorkedFetches.{laid, one_timed, its_order, at_start, at_first, in_run, at_note, with_own}
+use Rattle.worked_blocks.specs.WorkedFetches.{with_one_timer, fetched}
 
 -- ---- what the law asks
 
@@ -44,6 +45,19 @@ HasOrderIn layout at order = HasOrderlist layout 4 at ORDERS order
 
 abbrev pub HasRowsIn : (ℕ → ℕ) → LookUps → Voice → Type 0
 HasRowsIn at look v = HasRows (laid false) 4 at look its_packed its_order v
+
+-- so at the note in another layout: such as one in which the one timer of all instruments stands in the voice's own
+-- byte, or one in which the code may not read it
+abbrev pub HasNoteIn : Layout → (ℕ → ℕ) → LookUps → Type 0
+HasNoteIn layout at look = HasRows layout 4 at (looked_up look) its_packed its_order (on_row 2)
+
+abbrev pub own_timed : Layout
+own_timed = record one_timed {
+  address = λ label. one_timed.address (if nat_eq label ONE_TIMER then GATE_TIMER + 7 else label);
+}
+
+abbrev pub unread_timed : Layout
+unread_timed = record one_timed { may_read = λ place. (laid false).may_read place && not (nat_eq place 0x1128) }
 
 -- nothing is kept that stands under a condition
 abbrev pub bare : Layout
@@ -77,6 +91,7 @@ pub record GroundsAreWorked (look : LookUps) : Type 0 where
   pub note : IsSung look 2 (at_note 2)
   pub orderlist : HasOrderIn (laid false) (at_note 2) its_order
   pub rows : HasRowsIn (at_note 2) (looked_up look) (on_row 2)
+  pub one_timer : HasNoteIn one_timed (with_one_timer 2 (at_note 2)) look
 
 -- ---- what it refuses
 
@@ -101,6 +116,10 @@ pub record OthersAreDenied (look : LookUps) : Type 0 where
   pub timer_byte : ¬ HasRowsIn (put (at_note 2) 0x1121 256) (record (looked_up look) {
     instrument = λ number. record (look.instrument number) { gate_timer = 256 };
   }) (on_row 2)
+  -- where one stands alone it is the voice's, and the code may read it and leaves it
+  pub other_timer : ¬ HasNoteIn one_timed (with_one_timer 3 (at_note 2)) look
+  pub own_timer : ¬ HasNoteIn own_timed (at_note 2) look
+  pub unread_timer : ¬ HasNoteIn unread_timed (with_one_timer 2 (at_note 2)) look
   -- a plain note of a plain instrument asks for nothing; keyoff, keyon, a slide to the note, and an instrument that
   -- leaves the gate or the envelope as it is ask for their lines
   pub plain : KeepsRowIn bare look 0x90 0 0x3F

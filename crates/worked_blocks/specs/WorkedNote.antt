@@ -1,6 +1,6 @@
 -- A packed song of one note in memory, worked by hand: a layout of a player, what stands in each of its lists, and
 -- calls that begin its subtune.
-use Rattle.std.specs.Prelude.{◌≡◌, ℕ, ◌+◌, ◌-◌, ◌*◌, ◌/◌, ◌%◌, ◌≤◌, ◌&&◌, ◌||◌, Bool, true}
+use Rattle.std.specs.Prelude.{◌≡◌, ℕ, ◌+◌, ◌-◌, ◌*◌, ◌/◌, ◌%◌, ◌≤◌, ◌&&◌, ◌||◌, Bool, true, false}
 use Rattle.std.specs.Prelude.{nat_eq, nat_le, nat_lt}
 use Rattle.std.specs.Prelude.{if◌then◌else◌, List, [], ◌∷◌, slice_index}
 use Rattle.std.proofs.Common.{arith}
@@ -95,6 +95,9 @@ page_bytes page =
     else if nat_eq page 0x3B then 0x40 ∷ 0x41 ∷ 0x42 ∷ []
     else if nat_eq page 0x3C then 0xFF ∷ 0xFF ∷ []
     else if nat_eq page 0x3D then 0x4F ∷ 0x50 ∷ []
+    -- for all instruments, where no two differ in them: their gateoff timer, their first waveform
+    else if nat_eq page 0x3E then 2 ∷ []
+    else if nat_eq page 0x3F then 9 ∷ []
     -- the orderlists, and the patterns
     else if nat_eq page 0x40 then 0 ∷ 0xFF ∷ 0 ∷ []
     else if nat_eq page 0x41 then 1 ∷ 0xFF ∷ 0 ∷ []
@@ -128,6 +131,8 @@ pub record NoteIsLaid (packed : PackedSong) : Type 0 where
   pub wave : ¬ HasSongLists note_layout packed (put note_memory 0x2701 0x11)
   pub first_frequency : ¬ HasSongLists note_layout packed (put note_memory 0x2030 1)
   pub last_frequency : ¬ HasSongLists note_layout packed (put note_memory 0x2230 1)
+  pub one_timer : packed.facts.own_timer ≡ false → ¬ HasSongLists note_layout packed (put note_memory 0x3E00 3)
+  pub one_wave : packed.facts.own_wave ≡ false → ¬ HasSongLists note_layout packed (put note_memory 0x3F00 0x11)
   pub order : ¬ HasSongLists note_layout packed (put note_memory 0x4002 1)
   pub pattern : ¬ HasSongLists note_layout packed (put note_memory 0x5101 1)
   pub slide : ¬ HasSongLists note_layout packed (put note_memory 0x1100 1)
