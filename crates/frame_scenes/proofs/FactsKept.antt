@@ -1,8 +1,15 @@
 -- The lines of the facts that a voice meets are kept.
-use Rattle.std.proofs.Common.{◌≢◌, ℕ, ◌∙◌, arith}
+use Rattle.std.proofs.Common.{◌≡◌, ◌≢◌, ℕ, ◌∙◌, ◌||◌, Bool, true, false, refl, inl, inr, arith}
+use Rattle.std.proofs.lemmas.Bool.{both_ways, false_from_ne_true}
+use Rattle.std.proofs.lemmas.Bool.Decides.{eqb_tells}
+use Rattle.song_model.specs.declared.instruments.Instrument.{Instrument}
 use Rattle.song_model.specs.declared.songs.Song.{Song}
 use Rattle.song_model.specs.LookUp.{instrument_at}
+use Rattle.song_facts.specs.declared.facts.Fact.{Fact}
+use Rattle.song_facts.specs.declared.facts.Facts.{Facts}
+use Rattle.song_facts.specs.Facts.{HasSuchPair, is_among}
 use Rattle.song_facts.specs.declared.facts.Fact.TheVariants.{RowTone, RowSlide, RowOnce, FirstMask}
+use Rattle.song_facts.specs.declared.facts.Fact.TheVariants.{OwnTimer, Legato, NoHardRestart}
 use Rattle.song_facts.specs.declared.facts.Fact.TheVariants.{NoteVibrato, VibratoDelay, NotePulse, NoteFilter}
 use Rattle.song_facts.specs.declared.facts.Fact.TheVariants.{VoiceTempo, CommonTempo, FunkTurns, FunkChoice}
 use Rattle.play_model.specs.Used.{IsUsedInstrument}
@@ -13,7 +20,9 @@ use Rattle.packed_form.specs.Unpacked.{unpacked_song}
 use Rattle.packed_form.specs.StandsFor.{StandsFor}
 use Rattle.scopes.specs.Desk.{Layout}
 use Rattle.player_memory.specs.Commands.{KeepsTempo}
-use Rattle.player_memory.specs.FactLines.{KeepsMarked, KeepsFacts}
+use Rattle.player_memory.specs.declared.conditions.TheConstants.{OWN_TIMER, HELD_NOTE}
+use Rattle.player_memory.specs.FactLines.{fact_condition, KeepsMarked, KeepsMarkedAlone, KeepsFacts, HoldsAlone}
+use Rattle.player_memory.specs.SongLists.{is_read}
 use Rattle.tick_code.specs.TickBlock.{KeepsRow, KeepsInstrument}
 
 -- where those of all facts of the song that the packed song stands for are kept, those of the packed song's are
@@ -83,3 +92,51 @@ instrument_kept layout song number waits facts used left = record {
   pulse = λ is. facts NotePulse (record { instrument = number; used = used; is_such = is });
   filter = λ is. facts NoteFilter (record { instrument = number; used = used; is_such = is });
 }
+
+-- where the lines aren't kept for what two instruments differ in, no two used ones do
+pub no_two_differ : (layout : Layout) (song : Song) (part : Instrument → ℕ) (condition : ℕ) →
+    (HasSuchPair song (λ one other. part one ≢ part other) → layout.holds condition ≡ true) →
+    layout.holds condition ≡ false → (one other : ℕ) → IsUsedInstrument song one → IsUsedInstrument song other →
+    part (instrument_at song one) ≡ part (instrument_at song other)
+no_two_differ layout song part condition keeps out one other one_used other_used =
+    elim (eqb_tells (part (instrument_at song one)) (part (instrument_at song other))) [
+      | inl same ↦ same.1
+      | inr differ ↦
+          absurd (both_ways (layout.holds condition) out
+          (keeps (record {
+            one = one;
+            other = other;
+            one_used = one_used;
+            other_used = other_used;
+            differ = differ.1;
+          })))
+    ]
+
+-- a fact whose lines aren't kept isn't the packed song's
+pub none_marked : (layout : Layout) (facts : Facts) (fact : Fact) → KeepsMarked layout facts →
+    layout.holds (fact_condition fact) ≡ false → is_among facts fact ≡ false
+none_marked layout facts fact marked out =
+    false_from_ne_true (is_among facts fact)
+    (λ on. both_ways (layout.holds (fact_condition fact)) out (marked fact on))
+
+-- the gateoff timers are read where two differ, and where one keeps the gate or the envelope
+pub timers_read : (layout : Layout) (packed : PackedSong) → KeepsMarkedAlone layout packed.facts →
+    layout.holds OWN_TIMER ≡ true → is_read packed 7 ≡ true
+timers_read layout packed alone kept = rw (alone OwnTimer kept) refl
+
+pub held_read : (layout : Layout) (packed : PackedSong) → KeepsMarkedAlone layout packed.facts → HoldsAlone layout →
+    layout.holds HELD_NOTE ≡ true → is_read packed 7 ≡ true
+held_read layout packed alone held kept =
+    elim (held kept) [
+      | inl legato ↦ rw (alone Legato legato) (by_timer packed.facts.own_timer)
+      | inr soft ↦ rw (alone NoHardRestart soft) (by_both packed.facts.own_timer packed.facts.legato)
+    ]
+  where
+    by_timer : (timer : Bool) → (timer || true || packed.facts.no_hard_restart) ≡ true
+    by_timer true = refl
+    by_timer false = refl
+
+    by_both : (timer legato : Bool) → (timer || legato || true) ≡ true
+    by_both true legato = refl
+    by_both false true = refl
+    by_both false false = refl

@@ -17,10 +17,11 @@ use Rattle.frame_code.specs.FrameBlock.{counts_of, turn_in, TurnIsReady}
 use Rattle.frame_scenes.specs.FrameScenes.{Scene, FramesAreReady}
 use Rattle.frame_scenes.proofs.Lists.{pulses_stand, filters_stand, waves_stand, tones_stand}
 use Rattle.frame_scenes.proofs.Speeds.{speeds_stand}
-use Rattle.frame_scenes.proofs.Turns.{AtTurn, IsFine, its_turn, ticked_fine, waved_fine, effected_fine}
+use Rattle.frame_scenes.proofs.Turns.{AtTurn, IsFine, its_turn, begins, ticked_fine, waved_fine, effected_fine}
+use Rattle.frame_scenes.proofs.LookedUp.{timer_used}
 use Rattle.frame_scenes.proofs.Orders.{orderlist_stands}
 use Rattle.frame_scenes.proofs.Patterns.{rows_stand}
-use Rattle.frame_scenes.proofs.Ticks.{ticks_stand, in_lists, tick_keeps}
+use Rattle.frame_scenes.proofs.Ticks.{ticks_stand, in_lists, tick_keeps, one_wave}
 use Rattle.frame_scenes.proofs.Waves.{wave_ready}
 use Rattle.frame_scenes.proofs.Effects.{effect_ready}
 use Rattle.frame_scenes.proofs.Pulses.{pulse_ready, on_filter_row}
@@ -44,9 +45,10 @@ voice_ready : (layout : Layout) (packed : PackedSong) (song : Song) (o : Options
 voice_ready layout packed song o k voice x at turn = record {
   lists = in_lists layout packed song o k voice x at turn;
   keeps = tick_keeps layout packed song o k voice x at turn;
+  first_wave = λ now. one_wave layout packed song o k voice x at turn;
   wave = λ waits. wave_ready layout packed song o k voice x at s turn (goes waits) ticked;
   effect = λ waits effect. effect_ready layout packed song o k voice x at s turn (goes waits) effect waved;
-  fetch = λ waits. rows_stand layout packed song o k voice x at u turn effected;
+  fetch = λ waits. rows_stand layout packed song o k voice x at u turn effected (timer_used packed o k voice _ before);
   pulse = λ waits stays. pulse_ready layout packed song o k voice x at s turn (goes waits) effected stays;
 }
   where
@@ -59,6 +61,9 @@ voice_ready layout packed song o k voice x at turn = record {
     goes : (tick_step (voice + 1) (look_of packed) (turn_in packed o k voice x)).started ≡ false →
         GoesOn (its_turn packed o k voice x) s
     goes waits = record { waits = waits; left = refl }
+
+    before : IsFine packed k voice (turn_in packed o k voice x)
+    before = begins layout packed song o k voice x at turn
 
     ticked : IsFine packed k voice s
     ticked = ticked_fine layout packed song o k voice x at turn

@@ -1,6 +1,6 @@
 -- The lists of a packed song, as the steps read them: instruments, the tables of programs and the frequencies of notes.
 use Rattle.std.proofs.Common.{◌≡◌, ℕ, ◌+◌, ◌%◌, ◌<◌, ◌≤◌, Bool, true, false, length, nat_le}
-use Rattle.std.proofs.Common.{if◌then◌else◌, refl, arith}
+use Rattle.std.proofs.Common.{if◌then◌else◌, refl, sym, ap, ◌∙◌, subst, arith}
 use Rattle.std.proofs.lemmas.Bool.Decides.{nat_tests}
 use Rattle.song_model.specs.declared.tables.TableName.TheVariants.{Wave, Pulse, Filter}
 use Rattle.song_model.specs.declared.tables.TableRow.{TableRow}
@@ -12,13 +12,18 @@ use Rattle.asked_numbers.specs.Range.{IsInRange}
 use Rattle.packed_form.specs.declared.packed_songs.PackedSong.{PackedSong}
 use Rattle.packed_form.specs.Unpacked.{unpacked_song}
 use Rattle.song_facts.specs.declared.facts.Fact.TheVariants.{NoteVibrato, VibratoDelay, NotePulse, NoteFilter}
+use Rattle.song_facts.specs.declared.facts.Fact.TheVariants.{OwnWave}
+use Rattle.cpu6502.specs.declared.memory.TheConstants.{MEMORY_SIZE}
 use Rattle.scopes.specs.Desk.{Layout}
 use Rattle.player_memory.specs.FactLines.{KeepsMarkedAlone}
 use Rattle.player_memory.specs.Forms.{stored_left, stored_right}
 use Rattle.player_memory.specs.SongLists.{SongList, FrequencyLows, FrequencyHighs, Lefts, Rights, Instruments}
-use Rattle.player_memory.specs.SongLists.{first_number, list_length, HasNumber}
+use Rattle.player_memory.specs.SongLists.{first_number, list_length, list_byte, list_label, IsSongList, HasNumber}
 use Rattle.player_memory.specs.SongLists.{slide_rows, HasSongLists}
+use Rattle.player_memory.specs.Rooms.{IsElsewhere}
+use Rattle.player_memory.specs.Playing.{place_in, IsAlone}
 use Rattle.player_memory.specs.Holds.{IsPlayerLayout, look_of}
+use Rattle.frame_scenes.proofs.FactsKept.{timers_read}
 use Rattle.pulse_code.specs.PulseBlock.{HasPulseTable}
 use Rattle.filter_code.specs.FilterBlock.{HasFilterTable}
 use Rattle.tick_code.specs.TickBlock.{HasInstrument}
@@ -126,6 +131,20 @@ tones_stand layout packed at laid has = record {
   next_high = laid.next.frequency_highs;
 }
 
+-- a byte that stands for all instruments
+pub stands_alone : (layout : Layout) (packed : PackedSong) (at : ℕ → ℕ) (list : SongList) (byte : ℕ) →
+    HasSongLists layout packed at → IsSongList layout packed list → first_number packed list ≡ 0 →
+    list_length packed list ≡ 1 → layout.address (list_label list) < MEMORY_SIZE →
+    list_byte layout packed list 0 ≡ byte → IsAlone layout (slide_rows packed) at (list_label list) byte
+stands_alone layout packed at list byte has is first one small same =
+    let listed = has.lists list 0 is (from_none packed list 0 first (omega (arith, one))) in
+    let there : place_in layout (list_label list) 0 ≡ layout.address (list_label list) = omega (arith, small) in
+    record {
+      elsewhere = subst (IsElsewhere layout (slide_rows packed)) there listed.elsewhere;
+      reads = subst (λ place. layout.may_read place ≡ true) there listed.reads;
+      is = ap at (sym there) ∙ (listed.is ∙ same);
+    }
+
 pub instrument_stands : (layout : Layout) (packed : PackedSong) (at : ℕ → ℕ) → HasSongLists layout packed at →
     KeepsMarkedAlone layout packed.facts → KeepsLimits (unpacked_song packed) → (number : ℕ) →
     IsNumbered packed.instruments number → HasInstrument layout (slide_rows packed) at (look_of packed) number
@@ -137,8 +156,8 @@ instrument_stands layout packed at has alone limits number is = record {
   filter = λ kept. has.lists (Instruments 4) number (alone NoteFilter kept) (numbered 4);
   vibrato = λ kept. has.lists (Instruments 5) number (alone NoteVibrato kept) (numbered 5);
   delay = λ kept. has.lists (Instruments 6) number (alone VibratoDelay kept) (numbered 6);
-  gate_timer = has.lists (Instruments 7) number refl (numbered 7);
-  first_wave = has.lists (Instruments 8) number refl (numbered 8);
+  gate_timer = λ kept. has.lists (Instruments 7) number (timers_read layout packed alone kept) (numbered 7);
+  first_wave = λ kept. has.lists (Instruments 8) number (alone OwnWave kept) (numbered 8);
   gate_timer_byte = ((looks packed limits).instrument number).gate_timer;
 }
   where

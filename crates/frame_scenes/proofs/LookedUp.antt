@@ -4,13 +4,18 @@ use Rattle.song_model.specs.declared.features.Feature.TheVariants.{NoteDependent
 use Rattle.song_model.specs.declared.songs.Song.{Song}
 use Rattle.song_model.specs.declared.tables.TableName.TheVariants.{Speed}
 use Rattle.song_model.specs.LookUp.{table_row}
+use Rattle.play_model.specs.declared.options.Options.{Options}
 use Rattle.play_model.specs.State.{Voice, Playing}
+use Rattle.play_model.specs.TickStep.{tick_step}
+use Rattle.play_model.specs.WaveStep.{wave_step}
+use Rattle.play_model.specs.Frame.{effect_done}
 use Rattle.play_model.specs.Reached.{IsPointer}
 use Rattle.play_model.specs.Features.{HasFeature}
 use Rattle.asked_numbers.specs.Numbers.{IsAskedNumber}
 use Rattle.asked_numbers.specs.Range.{IsInRange}
 use Rattle.kept_notes.specs.NoteLaws.{LooksUpAsked}
-use Rattle.kept_notes.proofs.Laws.{voices_look_up_asked_lem}
+use Rattle.kept_notes.specs.Voices.{IsUsedTimer}
+use Rattle.kept_notes.proofs.Laws.{voices_look_up_asked_lem, timers_are_used_lem}
 use Rattle.packed_form.specs.declared.packed_songs.PackedSong.{PackedSong}
 use Rattle.packed_form.specs.Unpacked.{unpacked_song}
 use Rattle.packed_form.specs.StandsFor.{StandsFor}
@@ -23,6 +28,14 @@ pub looks_up : (packed : PackedSong) (k voice : ℕ) (s : Playing) → IsFine pa
     LooksUpAsked (unpacked_song packed) s.voice
 looks_up packed k voice s fine =
     voices_look_up_asked_lem (unpacked_song packed) (order_in packed k voice) s.voice fine.safe.voice fine.notes
+
+-- and its gateoff timer, where it comes to its fetch, is one of the song
+pub timer_used : (packed : PackedSong) (o : Options) (k voice : ℕ) (s : Playing) → IsFine packed k voice s →
+    IsUsedTimer (unpacked_song packed)
+    (effect_done o (look_of packed) (wave_step (look_of packed)
+    (tick_step (voice + 1) (look_of packed) s).playing)).voice.gate_timer
+timer_used packed o k voice s fine =
+    timers_are_used_lem (unpacked_song packed) (order_in packed k voice) (voice + 1) o s fine.safe.voice fine.notes
 
 -- and listed
 pub asked_in : (packed : PackedSong) (song : Song) (n : ℕ) → StandsFor packed song →

@@ -1,5 +1,5 @@
 -- The patterns of a packed song, as a voice fetches their rows.
-use Rattle.std.proofs.Common.{◌≡◌, ℕ, ◌<◌, ◌==◌, Bool, true, false, length, inr, refl, sym}
+use Rattle.std.proofs.Common.{◌≡◌, ℕ, ◌<◌, ◌==◌, Bool, true, false, length, inl, inr, refl, sym, ◌∙◌}
 use Rattle.std.proofs.Common.{[], subst, arith}
 use Rattle.std.proofs.lemmas.Bool.{eqb-false}
 use Rattle.std.proofs.lemmas.List.{length-map, get_or-map}
@@ -12,6 +12,8 @@ use Rattle.song_model.specs.LookUp.{pattern_at, zero_row, IsNumbered}
 use Rattle.song_model.specs.Walk.{played}
 use Rattle.song_model.proofs.Laws.{plays_are_patterns_lem}
 use Rattle.song_facts.specs.declared.facts.Fact.TheVariants.{RowTone, Legato, NoHardRestart, GateNote}
+use Rattle.song_facts.specs.declared.facts.Fact.TheVariants.{OwnTimer}
+use Rattle.song_facts.specs.Facts.{timer_of}
 use Rattle.play_model.specs.declared.options.Options.{Options}
 use Rattle.play_model.specs.State.{Voice, FrameState, Playing}
 use Rattle.play_model.specs.FetchRow.{row_taken}
@@ -22,15 +24,19 @@ use Rattle.packed_form.specs.PackedSpells.{PackedSpells}
 use Rattle.packed_form.specs.Unpacked.{unpacked_instrument, unpacked_pattern, unpacked_song}
 use Rattle.packed_form.specs.StandsFor.{StandsFor}
 use Rattle.scopes.specs.Desk.{Layout}
-use Rattle.player_memory.specs.SongLists.{PatternLows, PatternHighs, PatternBytes, Instruments, pattern_bytes}
+use Rattle.player_memory.specs.declared.conditions.TheConstants.{OWN_TIMER}
+use Rattle.player_memory.specs.SongLists.{PatternLows, PatternHighs, PatternBytes, Instruments, OneTimer}
+use Rattle.player_memory.specs.SongLists.{pattern_bytes}
 use Rattle.player_memory.specs.SongLists.{slide_rows}
 use Rattle.player_memory.specs.FactLines.{KeepsFacts, KeepsShared}
 use Rattle.player_memory.specs.Fetching.{IsPattern}
 use Rattle.player_memory.specs.Holds.{look_of, order_in, PatternStands}
 use Rattle.fetch_code.specs.FetchBlock.{HasRows, KeepsNext, next_instrument, next_row}
 use Rattle.frame_scenes.specs.FrameScenes.{Scene}
-use Rattle.frame_scenes.proofs.Lists.{from_one, from_none, looks}
-use Rattle.frame_scenes.proofs.Turns.{AtTurn, IsFine}
+use Rattle.kept_notes.specs.Voices.{IsUsedTimer}
+use Rattle.frame_scenes.proofs.FactsKept.{held_read, none_marked, no_two_differ}
+use Rattle.frame_scenes.proofs.Lists.{from_one, from_none, looks, stands_alone}
+use Rattle.frame_scenes.proofs.Turns.{AtTurn, IsFine, scene_facts}
 use Rattle.frame_scenes.proofs.Orders.{IsPlayedAndShort, order_played}
 
 -- ---- patterns
@@ -144,19 +150,25 @@ next_kept layout packed order v facts shared row instrument = record {
 
 pub rows_stand : (layout : Layout) (packed : PackedSong) (song : Song) (o : Options) (k voice : ℕ) (x : FrameState)
     (at : ℕ → ℕ) (s : Playing) → AtTurn layout packed song o k voice x at → IsFine packed k voice s →
+    IsUsedTimer (unpacked_song packed) s.voice.gate_timer →
     HasRows layout (slide_rows packed) at (look_of packed) (pattern_bytes packed) (order_in packed k voice) s.voice
-rows_stand layout packed song o k voice x at s turn fine = record {
+rows_stand layout packed song o k voice x at s turn fine its_timer = record {
   pattern = λ n.
       pattern_stands layout packed song o k x at (played order n).pattern scene
       (play_stored packed song order n scene.stands is.played is.endless);
-  timer =
-      scene.has.lists (Instruments 7) _ refl
+  timer = λ kept.
+      scene.has.lists (Instruments 7) _ (held_read layout packed scene.alone scene.held kept)
       (from_one packed (Instruments 7) _ refl numbered.first numbered.last);
+  one_timer = λ out.
+      stands_alone layout packed at OneTimer _ scene.has
+      (none_marked layout packed.facts OwnTimer scene.facts out) refl refl scene.laid.timer
+      (no_two_differ layout (unpacked_song packed) timer_of OWN_TIMER ((scene_facts turn) OwnTimer) out 1
+      its_timer.instrument (inl refl) its_timer.used ∙ sym its_timer.is);
   timer_byte = ((looks packed scene.stands.packed_song.limits).instrument _).gate_timer;
   tick = fine.range.voice.tick;
   gate_timer = fine.range.voice.gate_timer;
   command = fine.range.voice.new_command;
-  keeps = next_kept layout packed order s.voice scene.facts scene.shared row instrument;
+  keeps = next_kept layout packed order s.voice (scene_facts turn) scene.shared row instrument;
 }
   where
     scene : Scene layout packed song o k x at

@@ -12,7 +12,7 @@ use Rattle.packed_form.specs.declared.packed_songs.PackedSong.{PackedSong}
 use Rattle.packed_form.specs.Unpacked.{unpacked_song, packed_state}
 use Rattle.packed_form.specs.StandsFor.{StandsFor}
 use Rattle.scopes.specs.Desk.{Layout}
-use Rattle.player_memory.specs.FactLines.{KeepsMarked, KeepsMarkedAlone, KeepsShared}
+use Rattle.player_memory.specs.FactLines.{KeepsMarked, KeepsMarkedAlone, KeepsShared, HoldsAlone}
 use Rattle.player_memory.specs.SongLists.{HasSongLists}
 use Rattle.player_memory.specs.Holds.{IsPlayerLayout}
 use Rattle.slide_code.specs.SlideBlock.{KeepsCommon}
@@ -20,15 +20,14 @@ use Rattle.voice_code.specs.VoiceBlock.{KeepsOptions}
 use Rattle.frame_scenes.specs.FrameScenes.{KeepsPatternLimits, Scene, PackedFramesAreReady}
 use Rattle.frame_scenes.proofs.Turns.{subtunes_play}
 use Rattle.frame_scenes.proofs.Frames.{frames_are_ready}
-use Rattle.frame_scenes.proofs.FactsKept.{facts_kept}
 
 pub packed_scene : (layout : Layout) (packed : PackedSong) (song : Song) (o : Options) (k i : ℕ) (at : ℕ → ℕ) →
     StandsFor packed song → KeepsPatternLimits packed → IsPlayerLayout layout packed → HasSongLists layout packed at →
     ((feature : Feature) → IsBitSet packed.features.0 (bit_of feature) → layout.holds (bit_of feature) ≡ true) →
-    KeepsMarked layout packed.facts → KeepsMarkedAlone layout packed.facts → KeepsShared layout →
+    KeepsMarked layout packed.facts → KeepsMarkedAlone layout packed.facts → KeepsShared layout → HoldsAlone layout →
     KeepsOptions layout o → KeepsCommon layout → k < length packed.subtunes → IsSpeed o.speed →
     Scene layout packed song o k (packed_state packed k o i) at
-packed_scene layout packed song o k i at stands short laid has kept facts alone shared options common below speed =
+packed_scene layout packed song o k i at stands short laid has kept facts alone shared held options common below speed =
     record {
       stands = stands;
       short = short;
@@ -37,9 +36,10 @@ packed_scene layout packed song o k i at stands short laid has kept facts alone 
       used = λ feature uses.
           let plays = stands.plays o k speed (subst (λ n. k < n) stands.subtunes below) in
           kept feature ((stands.features.each feature).1 (plays.uses i feature uses));
-      facts = facts_kept layout packed song stands facts;
+      facts = facts;
       alone = alone;
       shared = shared;
+      held = held;
       options = options;
       common = common;
       below = below;
@@ -53,7 +53,8 @@ packed_scene layout packed song o k i at stands short laid has kept facts alone 
     }
 
 pub packed_frames_are_ready : PackedFramesAreReady
-packed_frames_are_ready layout packed song o k i at stands short laid has kept facts alone shared options common below
-    speed =
+packed_frames_are_ready layout packed song o k i at stands short laid has kept facts alone shared held options common
+    below speed =
     frames_are_ready layout packed song o k (packed_state packed k o i) at
-    (packed_scene layout packed song o k i at stands short laid has kept facts alone shared options common below speed)
+    (packed_scene layout packed song o k i at stands short laid has kept facts alone shared held options common below
+    speed)

@@ -1,11 +1,12 @@
 -- The tick step is ready.
 use Rattle.std.proofs.Common.{◌≡◌, ℕ, ◌+◌, ◌<◌, Bool, true, false, length, nat_eq, if◌then◌else◌}
-use Rattle.std.proofs.Common.{Option, Some, None, refl, subst}
+use Rattle.std.proofs.Common.{Option, Some, None, inl, refl, subst}
 use Rattle.std.proofs.lemmas.Bool.{eqb-true}
 use Rattle.song_model.specs.declared.features.Feature.TheVariants.{SetAd, SetSr, SetWave, SetWavePointer}
 use Rattle.song_model.specs.declared.features.Feature.TheVariants.{SetPulsePointer, SetFilterPointer, FilterControl}
 use Rattle.song_model.specs.declared.features.Feature.TheVariants.{Cutoff, Volume, FunkTempo, SetTempo}
 use Rattle.song_model.specs.declared.songs.Song.{Song}
+use Rattle.song_facts.specs.declared.facts.Fact.TheVariants.{OwnWave}
 use Rattle.play_model.specs.declared.options.Options.{Options}
 use Rattle.play_model.specs.State.{FrameState}
 use Rattle.play_model.specs.Uses.{DoesOnce}
@@ -14,20 +15,20 @@ use Rattle.packed_form.specs.Unpacked.{unpacked_song}
 use Rattle.scopes.specs.Desk.{Layout}
 use Rattle.player_memory.specs.declared.conditions.TheConstants.{SET_AD, SET_SR, SET_WAVE, SET_PULSE_POINTER}
 use Rattle.player_memory.specs.declared.conditions.TheConstants.{SET_FILTER_POINTER, SET_FILTER_CONTROL, SET_CUTOFF}
-use Rattle.player_memory.specs.declared.conditions.TheConstants.{SET_VOLUME}
+use Rattle.player_memory.specs.declared.conditions.TheConstants.{SET_VOLUME, OWN_WAVE}
 use Rattle.player_memory.specs.Commands.{condition_of_both, AreKept}
-use Rattle.player_memory.specs.SongLists.{slide_rows}
+use Rattle.player_memory.specs.SongLists.{OneWave, slide_rows}
 use Rattle.player_memory.specs.Holds.{KeepsUsed, look_of}
-use Rattle.tick_code.specs.TickBlock.{HasTickLists, IsInLists, KeepsTick}
+use Rattle.tick_code.specs.TickBlock.{HasTickLists, HasOneWave, IsInLists, KeepsTick}
 use Rattle.tick_code.proofs.Laws.{tick_kept}
 use Rattle.frame_code.specs.FrameBlock.{turn_in}
 use Rattle.frame_scenes.specs.FrameScenes.{Scene}
-use Rattle.frame_scenes.proofs.Lists.{instrument_stands}
+use Rattle.frame_scenes.proofs.Lists.{instrument_stands, stands_alone}
 use Rattle.frame_scenes.proofs.Speeds.{speeds_stand}
-use Rattle.frame_scenes.proofs.Turns.{AtTurn, IsFine, its_turn, in_turn, begins}
+use Rattle.frame_scenes.proofs.Turns.{AtTurn, IsFine, its_turn, in_turn, begins, scene_facts}
 use Rattle.frame_scenes.proofs.Programs.{speed_stored, waiting_points}
 use Rattle.frame_scenes.proofs.Patterns.{instrument_stored}
-use Rattle.frame_scenes.proofs.FactsKept.{row_kept, tempo_kept, instrument_kept}
+use Rattle.frame_scenes.proofs.FactsKept.{row_kept, tempo_kept, instrument_kept, no_two_differ, none_marked}
 
 -- ---- what is read
 
@@ -57,6 +58,20 @@ in_lists layout packed song o k voice x at turn =
           speed_stored packed song _ turn.scene.stands
           (waiting_points (unpacked_song packed) _ _ fine.safe.voice.waiting e);
     }
+
+-- where one first waveform stands for all instruments, it is that of the voice's
+pub one_wave : (layout : Layout) (packed : PackedSong) (song : Song) (o : Options) (k voice : ℕ) (x : FrameState)
+    (at : ℕ → ℕ) → AtTurn layout packed song o k voice x at →
+    HasOneWave layout (slide_rows packed) at
+    ((look_of packed).instrument (turn_in packed o k voice x).voice.instrument)
+one_wave layout packed song o k voice x at turn out =
+    let fine : IsFine packed k voice (turn_in packed o k voice x) =
+    begins layout packed song o k voice x at turn in
+    let scene = turn.scene in
+    stands_alone layout packed at OneWave _ scene.has
+    (none_marked layout packed.facts OwnWave scene.facts out) refl refl scene.laid.wave
+    (no_two_differ layout (unpacked_song packed) (λ i. i.first_wave) OWN_WAVE ((scene_facts turn) OwnWave) out 1 _
+    (inl refl) fine.safe.voice.instrument)
 
 -- ---- what is kept
 
@@ -105,8 +120,8 @@ tick_keeps layout packed song o k voice x at turn =
       funk = λ asks. turn.scene.used FunkTempo (in_turn packed o k voice x _ turn.few asks);
       length = λ d does long. turn.scene.used SetTempo (in_turn packed o k voice x _ turn.few (d, does, long));
     })
-    (λ now. row_kept layout (unpacked_song packed) _ _ turn.scene.facts fine.safe.voice.waiting)
-    (λ now. tempo_kept layout (unpacked_song packed) _ _ turn.scene.facts fine.safe.voice.waiting)
+    (λ now. row_kept layout (unpacked_song packed) _ _ (scene_facts turn) fine.safe.voice.waiting)
+    (λ now. tempo_kept layout (unpacked_song packed) _ _ (scene_facts turn) fine.safe.voice.waiting)
     (λ now.
-    instrument_kept layout (unpacked_song packed) _ _ turn.scene.facts fine.safe.voice.instrument fine.safe.voice.delay)
+    instrument_kept layout (unpacked_song packed) _ _ (scene_facts turn) fine.safe.voice.instrument fine.safe.voice.delay)
     turn.scene.shared

@@ -27,6 +27,8 @@ use Rattle.scopes.specs.Desk.{Layout}
 use Rattle.player_memory.specs.Holds.{look_of, order_in}
 use Rattle.frame_code.specs.FrameBlock.{turn_in}
 use Rattle.frame_scenes.specs.FrameScenes.{Scene}
+use Rattle.player_memory.specs.FactLines.{KeepsFacts}
+use Rattle.frame_scenes.proofs.FactsKept.{facts_kept}
 use Rattle.frame_scenes.proofs.Lists.{looks}
 
 -- ---- the packed song as a song
@@ -52,6 +54,12 @@ pub record AtTurn (layout : Layout) (packed : PackedSong) (song : Song) (o : Opt
     (at : ℕ → ℕ) : Type 0 where
   pub scene : Scene layout packed song o k x at
   pub few : voice < 3
+
+-- the lines of each fact are kept that the packed song has, read as a song
+pub scene_facts : {layout : Layout} {packed : PackedSong} {song : Song} {o : Options} {k voice : ℕ} {x : FrameState}
+    {at : ℕ → ℕ} → AtTurn layout packed song o k voice x at → KeepsFacts layout (unpacked_song packed)
+scene_facts {layout = layout} {packed = packed} {song = song} turn =
+    facts_kept layout packed song turn.scene.stands turn.scene.facts
 
 -- its turn in the frame
 abbrev pub its_turn : PackedSong → Options → ℕ → ℕ → FrameState → Turn

@@ -27,7 +27,7 @@ use Rattle.wave_code.specs.CommandBlock.{lent_out}
 use Rattle.slide_code.specs.SlideBlock.{IsNote}
 use Rattle.voice_code.specs.VoiceBlock.{IsMoved, MeetsNumber, MeetsCommand, WaveIsReady, its_command, its_param}
 use Rattle.frame_code.specs.FrameBlock.{counts_of}
-use Rattle.frame_scenes.proofs.Turns.{AtTurn, IsFine, its_turn, in_turn}
+use Rattle.frame_scenes.proofs.Turns.{AtTurn, IsFine, its_turn, in_turn, scene_facts}
 use Rattle.frame_scenes.proofs.Programs.{next_stored, speed_stored, wave_points}
 use Rattle.frame_scenes.proofs.LookedUp.{looks_up, asked_in, looks_within}
 use Rattle.frame_scenes.proofs.Ticks.{once_kept}
@@ -78,7 +78,7 @@ wave_kept layout packed song o k voice x at s turn goes fine = record {
       (in_turn packed o k voice x _ turn.few
       (its_row (look_of packed) s.voice, meets_row packed o k voice x s goes some command));
   delay = λ some low.
-      turn.scene.facts WaveDelay (record {
+      (scene_facts turn) WaveDelay (record {
         p = s.voice.wave_ptr;
         reached = (is_step (unpacked_song packed) Wave s.voice.wave_ptr fine.safe.voice.wave some).reached;
         is_such = low;

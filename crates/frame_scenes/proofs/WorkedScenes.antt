@@ -47,11 +47,21 @@ none_are_scenes layout packed song o k x at = record {
   used = λ some out scene. true≢false (sym (scene.used FilterTable some) ∙ out);
   facts = λ has out scene. true≢false (sym (scene.facts GateNote has) ∙ out);
   alone = λ none on scene. true≢false (sym (scene.alone GateNote on) ∙ none);
+  held = λ on gate envelope scene.
+      elim (scene.held on) [
+        | inl legato ↦ true≢false (sym legato ∙ gate)
+        | inr soft ↦ true≢false (sym soft ∙ envelope)
+      ];
   shared = λ on out scene. true≢false (sym (scene.shared.once on) ∙ out);
   options = λ on out scene. true≢false (sym on ∙ (sym scene.options.pulse ∙ out));
   common = λ on out scene. true≢false (sym (scene.common.rise (rw on refl)) ∙ out);
   below = λ past scene. let below = scene.below in omega (arith, past, below);
   safe = λ e scene. no_note x.one.note e scene.safe.one.note;
   notes = λ no scene. no scene.notes.one.last;
+  timer = λ other none scene.
+      elim scene.notes.one.timer [
+        | inl begins ↦ other begins.1
+        | inr used ↦ none used
+      ];
   range = λ e scene. let word = scene.range.one.freq in omega (arith, e, word);
 }

@@ -14,7 +14,7 @@ use Rattle.packed_form.specs.declared.packed_songs.PackedSong.{PackedSong}
 use Rattle.packed_form.specs.Unpacked.{unpacked_song, packed_state}
 use Rattle.packed_form.specs.StandsFor.{StandsFor}
 use Rattle.scopes.specs.Desk.{Layout}
-use Rattle.player_memory.specs.FactLines.{KeepsMarked, KeepsMarkedAlone, KeepsFacts, KeepsShared}
+use Rattle.player_memory.specs.FactLines.{KeepsMarked, KeepsMarkedAlone, KeepsShared, HoldsAlone}
 use Rattle.player_memory.specs.SongLists.{HasSongLists}
 use Rattle.player_memory.specs.Holds.{IsPlayerLayout, KeepsUsed}
 use Rattle.slide_code.specs.SlideBlock.{KeepsCommon}
@@ -26,8 +26,9 @@ abbrev pub KeepsPatternLimits : PackedSong → Type 0
 KeepsPatternLimits packed = (pattern : List ℕ) → Contains packed.patterns pattern → length pattern ≤ MOST_PACKED_BYTES
 
 -- The packed song stands for a song, and its lists stand in memory. The state is one that a song may come to in this
--- subtune, and its voices have notes of the song. The lines are kept of each feature that the frame uses, of each fact
--- of the packed song and of no other fact, of what features and facts have in common, and of each option that is on.
+-- subtune, and its voices have notes and gateoff timers of the song. The lines are kept of each feature that the frame
+-- uses, of each fact of the packed song and of no other fact, of what features and facts have in common, and of each
+-- option that is on; those of instruments that leave something as it is before a note, only for one of these.
 pub record Scene (layout : Layout) (packed : PackedSong) (song : Song) (o : Options) (k : ℕ) (x : FrameState)
     (at : ℕ → ℕ) : Type 0 where
   pub stands : StandsFor packed song
@@ -35,9 +36,10 @@ pub record Scene (layout : Layout) (packed : PackedSong) (song : Song) (o : Opti
   pub laid : IsPlayerLayout layout packed
   pub has : HasSongLists layout packed at
   pub used : KeepsUsed layout packed o k x
-  pub facts : KeepsFacts layout (unpacked_song packed)
+  pub facts : KeepsMarked layout packed.facts
   pub alone : KeepsMarkedAlone layout packed.facts
   pub shared : KeepsShared layout
+  pub held : HoldsAlone layout
   pub options : KeepsOptions layout o
   pub common : KeepsCommon layout
   pub below : k < length packed.subtunes
@@ -58,6 +60,6 @@ PackedFramesAreReady =
     (layout : Layout) (packed : PackedSong) (song : Song) (o : Options) (k i : ℕ) (at : ℕ → ℕ) →
     StandsFor packed song → KeepsPatternLimits packed → IsPlayerLayout layout packed → HasSongLists layout packed at →
     ((feature : Feature) → IsBitSet packed.features.0 (bit_of feature) → layout.holds (bit_of feature) ≡ true) →
-    KeepsMarked layout packed.facts → KeepsMarkedAlone layout packed.facts → KeepsShared layout →
+    KeepsMarked layout packed.facts → KeepsMarkedAlone layout packed.facts → KeepsShared layout → HoldsAlone layout →
     KeepsOptions layout o → KeepsCommon layout → k < length packed.subtunes → IsSpeed o.speed →
     FrameIsReady layout packed o k (packed_state packed k o i) at

@@ -8,13 +8,13 @@ use Rattle.play_model.specs.Freq.{freq}
 use Rattle.play_model.specs.State.{FrameState}
 use Rattle.asked_numbers.specs.Numbers.{IsLastNumber}
 use Rattle.asked_numbers.specs.Range.{IsInRange}
+use Rattle.kept_notes.specs.Voices.{IsUsedTimer}
 use Rattle.packed_form.specs.declared.packed_songs.PackedSong.{PackedSong}
 use Rattle.packed_form.specs.Unpacked.{unpacked_song}
-use Rattle.song_facts.specs.declared.facts.Fact.TheVariants.{GateNote}
-use Rattle.song_facts.specs.Facts.{HasFact}
 use Rattle.scopes.specs.Desk.{Layout}
 use Rattle.player_memory.specs.declared.conditions.TheConstants.{FILTER_TABLE, PORTA_UP, RISE, SKIP_PULSE}
 use Rattle.player_memory.specs.declared.conditions.TheConstants.{ROW_ONCE, GATE_NOTE, ROW_COMMAND}
+use Rattle.player_memory.specs.declared.conditions.TheConstants.{HELD_NOTE, LEGATO, NO_HARD_RESTART}
 use Rattle.player_memory.specs.declared.labels.TheConstants.{FREQUENCY_LOWS}
 use Rattle.player_memory.specs.Playing.{place_in}
 use Rattle.frame_scenes.specs.FrameScenes.{KeepsPatternLimits, Scene}
@@ -28,8 +28,9 @@ pub record PatternLimitsAreWorked (packed : PackedSong) : Type 0 where
 -- bytes; where the pointer stands at the processor's port; where the frequency of a number that the song asks for isn't
 -- in its list; where the filter has a program, or the pulse step is to be left out, or a frequency is slid up, or an
 -- orderlist's pattern has a keyoff, or rows have a command, and the lines for that aren't kept; where those for a
--- keyoff are, and the song has none; behind the last subtune; where a note sounds that no song comes to, or a voice's
--- last number is none of this song; and where a frequency is no word.
+-- keyoff are, and the song has none, or those of what an instrument leaves as it is, for none that does; behind the last
+-- subtune; where a note sounds that no song comes to, or a voice's last number is none of this song, or the gateoff
+-- timer, which isn't 0, is none of it; and where a frequency is no word.
 pub record NoScenesAreWorked (layout : Layout) (packed : PackedSong) (song : Song) (o : Options) (k : ℕ)
     (x : FrameState) (at : ℕ → ℕ) : Type 0 where
   pub stands : length packed.subtunes ≢ length (playable_subtunes song) → ¬ Scene layout packed song o k x at
@@ -38,15 +39,18 @@ pub record NoScenesAreWorked (layout : Layout) (packed : PackedSong) (song : Son
   pub has : (n : ℕ) → IsInRange packed.numbers n → at (place_in layout FREQUENCY_LOWS n) ≢ freq n % 256 →
       ¬ Scene layout packed song o k x at
   pub used : x.common.filter_ptr ≢ 0 → layout.holds FILTER_TABLE ≡ false → ¬ Scene layout packed song o k x at
-  pub facts : HasFact (unpacked_song packed) GateNote → layout.holds GATE_NOTE ≡ false →
-      ¬ Scene layout packed song o k x at
+  pub facts : packed.facts.gate_note ≡ true → layout.holds GATE_NOTE ≡ false → ¬ Scene layout packed song o k x at
   pub alone : packed.facts.gate_note ≡ false → layout.holds GATE_NOTE ≡ true → ¬ Scene layout packed song o k x at
   pub shared : layout.holds ROW_ONCE ≡ true → layout.holds ROW_COMMAND ≡ false → ¬ Scene layout packed song o k x at
+  pub held : layout.holds HELD_NOTE ≡ true → layout.holds LEGATO ≡ false → layout.holds NO_HARD_RESTART ≡ false →
+      ¬ Scene layout packed song o k x at
   pub options : o.skip_pulse ≡ true → layout.holds SKIP_PULSE ≡ false → ¬ Scene layout packed song o k x at
   pub common : layout.holds PORTA_UP ≡ true → layout.holds RISE ≡ false → ¬ Scene layout packed song o k x at
   pub below : length packed.subtunes ≤ k → ¬ Scene layout packed song o k x at
   pub safe : x.one.note ≡ 200 → ¬ Scene layout packed song o k x at
   pub notes : ¬ IsLastNumber (unpacked_song packed) x.one.last_note → ¬ Scene layout packed song o k x at
+  pub timer : x.one.gate_timer ≢ 0 → ¬ IsUsedTimer (unpacked_song packed) x.one.gate_timer →
+      ¬ Scene layout packed song o k x at
   pub range : x.one.freq ≡ 65536 → ¬ Scene layout packed song o k x at
 
 abbrev pub NoneAreScenes : Type 0

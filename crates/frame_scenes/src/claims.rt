@@ -6,7 +6,8 @@ ghost use Rattle.frame_scenes.specs.WorkedScenes.{NoneAreScenes, PatternLimitsAr
 
 /// Where a packed song stands for a song, its lists stand in memory, and the lines are kept of what the frame after a
 /// safe state uses and of the packed song's facts, and of no other facts, the filter and each voice have what their
-/// steps read, and are ready for them.
+/// steps read, and are ready for them. The lines for instruments that leave the gate or the envelope as it is are kept
+/// for one that does alone.
 ///
 /// So is each frame of a packed subtune from its start on, where the lines of all of the packed song's features and
 /// facts are kept, and of no other facts.
