@@ -28,7 +28,7 @@ use Rattle.image_parts.specs.CodeParts.{always, code_parts}
 use Rattle.image_parts.specs.Lengths.{slide_bytes, read_of, frequency_bytes}
 use Rattle.image_parts.specs.PartLaws.{CodeIsShort, PartsAreShort, CodeIsBounded, ImagesAreBounded}
 use Rattle.image_parts.proofs.Counts.{one_if}
-use Rattle.image_parts.proofs.ReadBytes.{read_most}
+use Rattle.image_parts.proofs.ReadBytes.{shared_most, read_most}
 use Rattle.image_parts.proofs.Sums.{around, code_takes_its_parts, unkept_parts_have_none}
 
 -- ---- parts
@@ -71,12 +71,12 @@ around_most holds part variables filter voice init few =
     omega (arith, a, b, c, d, e, f, n, front, m, l, k, x, y, z)
 
 -- the numbers, computed
-few_of : (start : Start) (variables part : ℕ) → part < 55 →
+few_of : (start : Start) (variables part : ℕ) → part < 57 →
     most_around part filter_tree voice_tree (init_tree start variables) ≤ 320
 few_of start variables part low =
     leb-true _ 320
     (agree_below_at (λ n. nat_le (most_around n filter_tree voice_tree (init_tree start variables)) 320) (λ n. true)
-    55 part refl low)
+    57 part refl low)
 
 rest_of : (start : Start) (variables : ℕ) →
     most_around always filter_tree voice_tree (init_tree start variables) ≤ 3070
@@ -100,7 +100,7 @@ no_more_than n m a b = omega (arith, a, b)
 
 pub parts_are_short : PartsAreShort
 parts_are_short asked o = record {
-  parts = λ part other. elim (cases_lt part 55) [
+  parts = λ part other. elim (cases_lt part 57) [
     | inl low ↦
         rw (ne_eqb part always other)
         (no_more_than _ _ (code_most asked o part) (few_of (start_of o) (variables_of asked o) part low))
@@ -144,19 +144,19 @@ frequencies_most range size few = most range.first range.count (2 + size) few
 
 pub code_is_bounded : CodeIsBounded
 code_is_bounded asked features rows size range o few low =
-    within _ _ _ (kept_parts features o) (slides_most asked rows few) (frequencies_most range size low)
-    (code_is_short asked o)
+    within _ _ _ _ (kept_parts features o) (shared_most asked) (slides_most asked rows few)
+    (frequencies_most range size low) (code_is_short asked o)
   where
-    within : (slides frequencies code kept : ℕ) → slides ≤ 768 → frequencies ≤ 258 → code ≤ 1668 →
-        slides + frequencies + code ≤ 3072 + 320 * kept
-    within slides frequencies code kept a b c = omega (arith, a, b, c)
+    within : (shared slides frequencies code kept : ℕ) → shared ≤ 2 → slides ≤ 768 → frequencies ≤ 258 →
+        code ≤ 1668 → shared + slides + frequencies + code ≤ 3072 + 320 * kept
+    within shared slides frequencies code kept a b c d = omega (arith, a, b, c, d)
 
 pub images_are_bounded : ImagesAreBounded
 images_are_bounded packed o few =
-    all (packed_song_size packed) (read_of packed) _ _ _ _ (read_most packed)
+    all (packed_song_size packed) (read_of packed) _ _ _ _ _ (read_most packed)
     (code_is_bounded (asked_by packed) packed.features.0 _ (read_of packed) packed.numbers o few
     packed.numbers_within)
   where
-    all : (packed read slides frequencies code bound : ℕ) → read ≤ packed → slides + frequencies + code ≤ bound →
-        read + slides + frequencies + code ≤ packed + bound
-    all packed read slides frequencies code bound less h = omega (arith, less, h)
+    all : (packed read shared slides frequencies code bound : ℕ) → read ≤ packed + shared →
+        shared + slides + frequencies + code ≤ bound → read + slides + frequencies + code ≤ packed + bound
+    all packed read shared slides frequencies code bound less h = omega (arith, less, h)

@@ -1,30 +1,45 @@
 -- What is read of a packed song, by what it asks for and by its facts.
 use Rattle.std.specs.Prelude.{sum_by}
-use Rattle.std.proofs.Common.{◌≡◌, ℕ, ◌+◌, ◌-◌, ◌*◌, ◌≤◌, Bool, true, false, length, if◌then◌else◌, ap, arith}
+use Rattle.std.proofs.Common.{◌≡◌, ℕ, ◌+◌, ◌-◌, ◌*◌, ◌≤◌, Bool, true, false, ◌||◌, length, if◌then◌else◌, refl, ap}
+use Rattle.std.proofs.Common.{arith}
 use Rattle.packed_form.specs.declared.packed_songs.PackedSong.{PackedSong}
 use Rattle.packed_form.specs.Sizes.{list_size, subtune_size, packed_song_size}
 use Rattle.player_memory.specs.declared.conditions.TheConstants.{NOTE_PULSE, NOTE_FILTER, NOTE_VIBRATO, VIBRATO_DELAY}
-use Rattle.player_memory.specs.SongLists.{unread, unread_size, bytes_in_front}
-use Rattle.player_memory.proofs.Laws.{unread_few, unread_within}
+use Rattle.player_memory.specs.declared.conditions.TheConstants.{LEGATO, NO_HARD_RESTART, OWN_TIMER, OWN_WAVE}
+use Rattle.player_memory.specs.SongLists.{unread, unread_size, shared_size, bytes_read, bytes_in_front}
+use Rattle.player_memory.proofs.Laws.{unread_few}
 use Rattle.kept_lines.specs.Asked.{is_in, asked_by}
 use Rattle.kept_lines.proofs.Laws.{asked_is_exact}
 use Rattle.image_parts.specs.CodeParts.{zero_bytes}
-use Rattle.image_parts.specs.Lengths.{unread_of, unread_bytes, read_of}
+use Rattle.image_parts.specs.Lengths.{unread_of, unread_timers, unread_bytes, shared_bytes, read_of}
 
--- of each instrument four bytes at most aren't read
-pub unread_most : (asked instruments : ℕ) → unread_bytes asked instruments ≤ 4 * instruments
+-- of each instrument six bytes at most aren't read
+pub unread_most : (asked instruments : ℕ) → unread_bytes asked instruments ≤ 6 * instruments
 unread_most asked instruments =
     let pulse = at_most (is_in asked NOTE_PULSE) in
     let filter = at_most (is_in asked NOTE_FILTER) in
     let vibrato = at_most (is_in asked NOTE_VIBRATO) in
     let delay = at_most (is_in asked VIBRATO_DELAY) in
+    let timer = at_most (is_in asked OWN_TIMER || is_in asked LEGATO || is_in asked NO_HARD_RESTART) in
+    let wave = at_most (is_in asked OWN_WAVE) in
     omega arith
   where
     at_most : (z : Bool) → (if z then 0 else instruments) ≤ instruments
     at_most true = omega arith
     at_most false = omega arith
 
--- a field isn't read exactly where the song doesn't ask for its condition
+-- and two at most stand alone for all of them
+pub shared_most : (asked : ℕ) → shared_bytes asked ≤ 2
+shared_most asked =
+    let timer = at_most (is_in asked OWN_TIMER) in
+    let wave = at_most (is_in asked OWN_WAVE) in
+    omega arith
+  where
+    at_most : (z : Bool) → (if z then 0 else 1) ≤ 1
+    at_most true = omega arith
+    at_most false = omega arith
+
+-- a field isn't read exactly where the song doesn't ask for its condition, or for none of three
 pub unread_is : (packed : PackedSong) → unread_bytes (asked_by packed) (length packed.instruments) ≡ unread_size packed
 unread_is packed =
     let exact = asked_is_exact packed.features.0 packed.facts in
@@ -32,6 +47,9 @@ unread_is packed =
     let filter : unread_of (asked_by packed) NOTE_FILTER count ≡ unread packed 4 = ap if_not (exact NOTE_FILTER) in
     let vibrato : unread_of (asked_by packed) NOTE_VIBRATO count ≡ unread packed 5 = ap if_not (exact NOTE_VIBRATO) in
     let delay : unread_of (asked_by packed) VIBRATO_DELAY count ≡ unread packed 6 = ap if_not (exact VIBRATO_DELAY) in
+    let timer : unread_timers (asked_by packed) count ≡ unread packed 7 =
+    if_none (exact OWN_TIMER) (exact LEGATO) (exact NO_HARD_RESTART) in
+    let wave : unread_of (asked_by packed) OWN_WAVE count ≡ unread packed 8 = ap if_not (exact OWN_WAVE) in
     omega arith
   where
     count : ℕ
@@ -40,30 +58,47 @@ unread_is packed =
     if_not : Bool → ℕ
     if_not read = if read then 0 else length packed.instruments
 
--- so what is read is what stands in front of the frequencies, but for the zeros
-pub front_is : (packed : PackedSong) → zero_bytes + read_of packed ≡ bytes_in_front packed
-front_is packed = sum (packed_song_size packed) _ (unread_size packed) (unread_is packed) (unread_within packed)
+    if_none : {a b c x y z : Bool} → a ≡ x → b ≡ y → c ≡ z → if_not (a || b || c) ≡ if_not (x || y || z)
+    if_none e f g = rw (e, f, g) refl
+
+pub shared_is : (packed : PackedSong) → shared_bytes (asked_by packed) ≡ shared_size packed
+shared_is packed =
+    let exact = asked_is_exact packed.features.0 packed.facts in
+    let timer = ap if_not (exact OWN_TIMER) in
+    let wave = ap if_not (exact OWN_WAVE) in
+    omega (arith, timer, wave)
   where
-    sum : (size less unread : ℕ) → less ≡ unread → unread ≤ size → 2 + (size - less) ≡ 2 + size - unread
-    sum size less unread e within = omega (arith, e, within)
+    if_not : Bool → ℕ
+    if_not own = if own then 0 else 1
 
-pub read_is : (packed : PackedSong) → read_of packed ≡ packed_song_size packed - unread_size packed
-read_is packed = ap (λ (less : ℕ). packed_song_size packed - less) (unread_is packed)
+-- so the song's facts say what is read
+pub read_is : (packed : PackedSong) → read_of packed ≡ bytes_read packed
+read_is packed = all (packed_song_size packed) _ _ _ _ (shared_is packed) (unread_is packed)
+  where
+    all : (size more shared less unread : ℕ) → more ≡ shared → less ≡ unread → size + more - less ≡ size + shared - unread
+    all size more shared less unread e f = rw (e, f) refl
 
-pub read_most : (packed : PackedSong) → read_of packed ≤ packed_song_size packed
-read_most packed = less (packed_song_size packed) (unread_bytes (asked_by packed) (length packed.instruments))
+-- and it is what stands in front of the frequencies, but for the zeros
+pub front_is : (packed : PackedSong) → zero_bytes + read_of packed ≡ bytes_in_front packed
+front_is packed = ap (λ (read : ℕ). zero_bytes + read) (read_is packed)
+
+-- the packed song, but for what stands alone for all instruments, is no smaller
+pub read_most : (packed : PackedSong) → read_of packed ≤ packed_song_size packed + shared_bytes (asked_by packed)
+read_most packed =
+    less (packed_song_size packed + shared_bytes (asked_by packed))
+    (unread_bytes (asked_by packed) (length packed.instruments))
   where
     less : (size unread : ℕ) → size - unread ≤ size
     less size unread = omega arith
 
--- the speed table is
+-- the speed table is read
 pub speeds_are_read : (packed : PackedSong) → length packed.speed ≤ read_of packed
 speeds_are_read packed =
     within (sum_by subtune_size packed.subtunes + sum_by list_size packed.patterns) (length packed.instruments)
-    (length packed.wave) (length packed.pulse) (length packed.filter) (length packed.speed) (unread_size packed)
-    (read_of packed) (read_is packed) (unread_few packed)
+    (length packed.wave) (length packed.pulse) (length packed.filter) (length packed.speed) (shared_size packed)
+    (unread_size packed) (read_of packed) (read_is packed) (unread_few packed)
   where
-    within : (texts instruments wave pulse filter speed unread read : ℕ) →
-        read ≡ texts + 9 * instruments + 2 * wave + 2 * pulse + 2 * filter + 2 * speed - unread →
-        unread ≤ 4 * instruments → speed ≤ read
-    within texts instruments wave pulse filter speed unread read is few = omega (arith, is, few)
+    within : (texts instruments wave pulse filter speed shared unread read : ℕ) →
+        read ≡ texts + 9 * instruments + 2 * wave + 2 * pulse + 2 * filter + 2 * speed + shared - unread →
+        unread ≤ 6 * instruments → speed ≤ read
+    within texts instruments wave pulse filter speed shared unread read is few = omega (arith, is, few)

@@ -1,7 +1,8 @@
 -- What each image has: its lines, its variables, and what stands in the place of lines that aren't kept.
-use Rattle.std.proofs.Common.{◌≡◌, ℕ, ◌+◌, ◌≤◌, Bool, true, false, not, nat_eq, ◌||◌, ◌++◌, replicate}
-use Rattle.std.proofs.Common.{if◌then◌else◌, refl, sym, ap, subst, ◌∙◌, arith}
-use Rattle.std.proofs.lemmas.Bool.{eqb-true, or_parts, true≢false}
+use Rattle.std.proofs.Common.{◌≡◌, ℕ, ◌+◌, ◌≤◌, inl, inr, Bool, true, false, not, nat_eq, ◌||◌, ◌&&◌, List, [], ◌∷◌}
+use Rattle.std.proofs.Common.{◌++◌, replicate, if◌then◌else◌, refl, sym, ap, subst, ◌∙◌, arith}
+use Rattle.std.specs.List.{AllByRecursion}
+use Rattle.std.proofs.lemmas.Bool.{eqb-true, or_cases, or_parts, and_parts, true≢false}
 use Rattle.play_model.specs.declared.options.Options.{Options}
 use Rattle.scopes.specs.Trees.{Tree}
 use Rattle.scope_lines.specs.Readings.{holds_in}
@@ -10,6 +11,7 @@ use Rattle.scope_parts.specs.PartLaws.{most_of, least_of}
 use Rattle.scope_parts.proofs.Laws.{parts_are_bounded, parts_are_there}
 use Rattle.player_memory.specs.declared.conditions.TheConstants.{PULSE_TABLE, SET_VOLUME, WAVE_COMMAND, ROW_SLIDE}
 use Rattle.player_memory.specs.declared.conditions.TheConstants.{EFFECTS, PORTA_UP, PORTA_DOWN, TONE_PORTA, TIE_NOTE}
+use Rattle.player_memory.specs.declared.conditions.TheConstants.{OWN_TIMER, OWN_WAVE}
 use Rattle.player_text.specs.declared.texts.Start.{Start}
 use Rattle.player_text.specs.Texts.{filter_tree, voice_tree, init_tree}
 use Rattle.kept_lines.specs.Starts.{start_of}
@@ -25,74 +27,97 @@ use Rattle.image_parts.proofs.Sums.{around}
 use Rattle.image_parts.proofs.Settled.{settled, settled_has_the_parts}
 use Rattle.image_parts.proofs.Bounds.{both, plain_is}
 
--- ---- a block whose choices by three conditions are made
+-- ---- a test in all ways in which five conditions hold or don't
 
-abbrev made : Bool → Bool → Bool → Tree → Tree
-made pulse volume effects tree =
-    settled PULSE_TABLE pulse (settled SET_VOLUME volume (settled EFFECTS effects tree))
+abbrev either_way : (Bool → Bool) → Bool
+either_way test = test true && test false
+
+abbrev in_all_ways : (Bool → Bool → Bool → Bool → Bool → Bool) → Bool
+in_all_ways test =
+    either_way (λ a. either_way (λ b. either_way (λ c. either_way (λ d. either_way (λ e. test a b c d e)))))
+
+-- so it is in each of them
+in_one : (test : Bool → Bool) (z : Bool) → either_way test ≡ true → test z ≡ true
+in_one test true all = (and_parts (test true) (test false) all).0
+in_one test false all = (and_parts (test true) (test false) all).1
+
+in_each : (test : Bool → Bool → Bool → Bool → Bool → Bool) (a b c d e : Bool) → in_all_ways test ≡ true →
+    test a b c d e ≡ true
+in_each test a b c d e all =
+    in_one (λ z. test a b c d z) e
+    (in_one (λ y. either_way (λ z. test a b c y z)) d
+    (in_one (λ x. either_way (λ y. either_way (λ z. test a b x y z))) c
+    (in_one (λ w. either_way (λ x. either_way (λ y. either_way (λ z. test a w x y z)))) b
+    (in_one (λ v. either_way (λ w. either_way (λ x. either_way (λ y. either_way (λ z. test v w x y z))))) a all))))
+
+-- ---- a block whose choices by five conditions are made
+
+abbrev made : Bool → Bool → Bool → Bool → Bool → Tree → Tree
+made pulse volume effects timer wave tree =
+    settled PULSE_TABLE pulse (settled SET_VOLUME volume (settled EFFECTS effects
+    (settled OWN_TIMER timer (settled OWN_WAVE wave tree))))
+
+abbrev made_by : (ℕ → Bool) → Tree → Tree
+made_by holds =
+    made (holds PULSE_TABLE) (holds SET_VOLUME) (holds EFFECTS) (holds OWN_TIMER) (holds OWN_WAVE)
 
 made_has_the_parts : (holds : ℕ → Bool) (tree : Tree) →
-    parts holds always (made (holds PULSE_TABLE) (holds SET_VOLUME) (holds EFFECTS) tree) ≡ parts holds always tree
+    parts holds always (made_by holds tree) ≡ parts holds always tree
 made_has_the_parts holds tree =
-    settled_has_the_parts holds PULSE_TABLE (holds PULSE_TABLE) refl always
-    (settled SET_VOLUME (holds SET_VOLUME) (settled EFFECTS (holds EFFECTS) tree))
-    ∙ settled_has_the_parts holds SET_VOLUME (holds SET_VOLUME) refl always (settled EFFECTS (holds EFFECTS) tree)
-    ∙ settled_has_the_parts holds EFFECTS (holds EFFECTS) refl always tree
+    let wave = settled OWN_WAVE (holds OWN_WAVE) tree in
+    let timer = settled OWN_TIMER (holds OWN_TIMER) wave in
+    let effects = settled EFFECTS (holds EFFECTS) timer in
+    let volume = settled SET_VOLUME (holds SET_VOLUME) effects in
+    settled_has_the_parts holds PULSE_TABLE (holds PULSE_TABLE) refl always volume
+    ∙ settled_has_the_parts holds SET_VOLUME (holds SET_VOLUME) refl always effects
+    ∙ settled_has_the_parts holds EFFECTS (holds EFFECTS) refl always timer
+    ∙ settled_has_the_parts holds OWN_TIMER (holds OWN_TIMER) refl always wave
+    ∙ settled_has_the_parts holds OWN_WAVE (holds OWN_WAVE) refl always tree
 
 -- how many bytes stand in the place of others, by what holds
-abbrev in_place_of : Bool → Bool → Bool → ℕ
-in_place_of pulse volume effects = (if pulse then 0 else 2) + (if volume then 0 else 2) + (if effects then 0 else 3)
+abbrev in_place_of : Bool → Bool → Bool → Bool → Bool → ℕ
+in_place_of pulse volume effects timer wave =
+    (if pulse then 0 else 2) + (if volume then 0 else 2) + (if effects then 0 else 3) + (if timer then 0 else 6)
+    + (if wave then 0 else 3)
 
--- the three blocks have at least so many, and at most so many
-least_is : (pulse volume effects : Bool) (start : Start) (variables : ℕ) →
-    least_of always always (made pulse volume effects filter_tree)
-    + least_of always always (made pulse volume effects voice_tree)
-    + least_of always always (made pulse volume effects (init_tree start variables))
-    ≡ 387 + in_place_of pulse volume effects
-least_is true true true start variables = refl
-least_is true true false start variables = refl
-least_is true false true start variables = refl
-least_is true false false start variables = refl
-least_is false true true start variables = refl
-least_is false true false start variables = refl
-least_is false false true start variables = refl
-least_is false false false start variables = refl
+-- the bytes of three blocks, by a number of each
+abbrev of_blocks : (Tree → ℕ) → Start → ℕ → ℕ
+of_blocks number start variables =
+    number filter_tree + number voice_tree + number (init_tree start variables)
 
-most_is : (pulse volume effects : Bool) (start : Start) (variables : ℕ) →
-    most_of always always (made pulse volume effects filter_tree)
-    + most_of always always (made pulse volume effects voice_tree)
-    + most_of always always (made pulse volume effects (init_tree start variables))
-    ≡ 387 + in_place_of pulse volume effects
-most_is true true true start variables = refl
-most_is true true false start variables = refl
-most_is true false true start variables = refl
-most_is true false false start variables = refl
-most_is false true true start variables = refl
-most_is false true false start variables = refl
-most_is false false true start variables = refl
-most_is false false false start variables = refl
+-- they have at least so many, and at most so many
+abbrev has_as_many : Start → ℕ → Bool → Bool → Bool → Bool → Bool → Bool
+has_as_many start variables pulse volume effects timer wave =
+    nat_eq (of_blocks (λ tree. least_of always always (made pulse volume effects timer wave tree)) start variables)
+    (370 + in_place_of pulse volume effects timer wave)
+    && nat_eq (of_blocks (λ tree. most_of always always (made pulse volume effects timer wave tree)) start variables)
+    (370 + in_place_of pulse volume effects timer wave)
+
+all_have_as_many : (start : Start) (variables : ℕ) → in_all_ways (has_as_many start variables) ≡ true
+all_have_as_many start variables = refl
 
 between : (holds : ℕ → Bool) (tree : Tree) →
-    (least_of always always (made (holds PULSE_TABLE) (holds SET_VOLUME) (holds EFFECTS) tree)
-    ≤ bytes_of always (parts holds always tree))
-    × (bytes_of always (parts holds always tree)
-    ≤ most_of always always (made (holds PULSE_TABLE) (holds SET_VOLUME) (holds EFFECTS) tree))
+    (least_of always always (made_by holds tree) ≤ bytes_of always (parts holds always tree))
+    × (bytes_of always (parts holds always tree) ≤ most_of always always (made_by holds tree))
 between holds tree =
-    let known = made (holds PULSE_TABLE) (holds SET_VOLUME) (holds EFFECTS) tree in
+    let known = made_by holds tree in
     subst
     (λ ps. (least_of always always known ≤ bytes_of always ps) × (bytes_of always ps ≤ most_of always always known))
     (made_has_the_parts holds tree)
     (parts_are_there holds always always known, parts_are_bounded holds always always known)
 
 blocks_are : (holds : ℕ → Bool) (start : Start) (variables : ℕ) →
-    bytes_of always (parts holds always filter_tree) + bytes_of always (parts holds always voice_tree)
-    + bytes_of always (parts holds always (init_tree start variables))
-    ≡ 387 + in_place holds
+    of_blocks (λ tree. bytes_of always (parts holds always tree)) start variables ≡ 370 + in_place holds
 blocks_are holds start variables =
+    let both = and_parts
+    (nat_eq (of_blocks (λ tree. least_of always always (made_by holds tree)) start variables)
+    (370 + in_place holds))
+    (nat_eq (of_blocks (λ tree. most_of always always (made_by holds tree)) start variables)
+    (370 + in_place holds))
+    (in_each (has_as_many start variables) (holds PULSE_TABLE) (holds SET_VOLUME) (holds EFFECTS) (holds OWN_TIMER)
+    (holds OWN_WAVE) (all_have_as_many start variables)) in
     squeezed _ _ _ _ _ _ _ _ _ _ (between holds filter_tree) (between holds voice_tree)
-    (between holds (init_tree start variables))
-    (least_is (holds PULSE_TABLE) (holds SET_VOLUME) (holds EFFECTS) start variables)
-    (most_is (holds PULSE_TABLE) (holds SET_VOLUME) (holds EFFECTS) start variables)
+    (between holds (init_tree start variables)) (eqb-true _ _ both.0) (eqb-true _ _ both.1)
   where
     squeezed : (l f m k v n j i o all : ℕ) → (l ≤ f) × (f ≤ m) → (k ≤ v) × (v ≤ n) → (j ≤ i) × (i ≤ o) →
         l + k + j ≡ all → m + n + o ≡ all → f + v + i ≡ all
@@ -128,146 +153,168 @@ rest_is_exact asked o =
     with_zeros _ variables _ _ (around_is holds variables filter_tree voice_tree (init_tree (start_of o) variables))
     (blocks_are holds (start_of o) variables)
   where
-    with_zeros : (all variables blocks more : ℕ) → all ≡ 25 + variables + blocks → blocks ≡ 387 + more →
-        all + 2 ≡ 414 + variables + more
+    with_zeros : (all variables blocks more : ℕ) → all ≡ 25 + variables + blocks → blocks ≡ 370 + more →
+        all + 2 ≡ 397 + variables + more
     with_zeros all variables blocks more e f = omega (arith, e, f)
 
--- ---- how many variables there are where a condition holds, or doesn't
+-- ---- how many variables there are where conditions hold, or don't
 
-on_one : variable_count (λ condition. nat_eq condition PULSE_TABLE) ≡ 80
-unfolding voice_rows shared_rows asks has_byte voice_labels other_labels free_places funk_place variable_count
-on_one = refl
+abbrev among : List ℕ → ℕ → Bool
+among [] condition = false
+among (known ∷ rest) condition = nat_eq condition known || among rest condition
 
-on_other : variable_count (λ condition. nat_eq condition EFFECTS) ≡ 78
-unfolding voice_rows shared_rows asks has_byte voice_labels other_labels free_places funk_place variable_count
-on_other = refl
+-- those that hold keep at least what they keep alone
+held : (holds : ℕ → Bool) (known : List ℕ) → AllByRecursion (λ one. holds one ≡ true) known → (condition : ℕ) →
+    among known condition ≡ true → holds condition ≡ true
+held holds [] all condition is = absurd (cc)
+held holds (one ∷ rest) all condition is = elim (or_cases (nat_eq condition one) (among rest condition) is) [
+  | inl same ↦ ap holds (eqb-true condition one same) ∙ all.0
+  | inr later ↦ held holds rest all.1 condition later
+]
 
-with_one : (holds : ℕ → Bool) (known : ℕ) → holds known ≡ true →
-    variable_count (λ condition. nat_eq condition known) ≤ variable_count holds
-with_one holds known on =
-    counts_rise (λ condition. nat_eq condition known) holds
-    (λ condition same. ap holds (eqb-true condition known same) ∙ on)
+with_these : (holds : ℕ → Bool) (known : List ℕ) → AllByRecursion (λ one. holds one ≡ true) known →
+    variable_count (among known) ≤ variable_count holds
+with_these holds known all = counts_rise (among known) holds (held holds known all)
 
-off_pulse : variable_count (λ condition. not (nat_eq condition PULSE_TABLE)) ≡ 107
-unfolding voice_rows shared_rows asks has_byte voice_labels other_labels free_places funk_place variable_count
-off_pulse = refl
-
-off_volume : variable_count (λ condition. not (nat_eq condition SET_VOLUME)) ≡ 112
-unfolding voice_rows shared_rows asks has_byte voice_labels other_labels free_places funk_place variable_count
-off_volume = refl
-
-without : (holds : ℕ → Bool) (known : ℕ) → holds known ≡ false →
-    variable_count holds ≤ variable_count (λ condition. not (nat_eq condition known))
-without holds known off =
-    counts_rise holds (λ condition. not (nat_eq condition known))
-    (λ condition on. other condition on (nat_eq condition known) refl)
+-- and where others don't, no more is kept than by all but these
+left_out : (holds : ℕ → Bool) (out : List ℕ) → AllByRecursion (λ one. holds one ≡ false) out → (condition : ℕ) →
+    holds condition ≡ true → not (among out condition) ≡ true
+left_out holds [] all condition on = refl
+left_out holds (one ∷ rest) all condition on =
+    by_test (nat_eq condition one) refl (left_out holds rest all.1 condition on)
   where
-    other : (condition : ℕ) → holds condition ≡ true → (z : Bool) → nat_eq condition known ≡ z →
-        not (nat_eq condition known) ≡ true
-    other condition on true same =
-        absurd (true≢false (sym on ∙ (ap holds (eqb-true condition known same) ∙ off)))
-    other condition on false same = rw same refl
+    by_test : (z : Bool) → nat_eq condition one ≡ z → not (among rest condition) ≡ true →
+        not (nat_eq condition one || among rest condition) ≡ true
+    by_test true same later = absurd (true≢false (sym on ∙ (ap holds (eqb-true condition one same) ∙ all.0)))
+    by_test false other later = rw other later
+
+without_these : (holds : ℕ → Bool) (out : List ℕ) → AllByRecursion (λ one. holds one ≡ false) out →
+    variable_count holds ≤ variable_count (λ condition. not (among out condition))
+without_these holds out all = counts_rise holds (λ condition. not (among out condition)) (left_out holds out all)
+
+-- how many these are
+pub record CountsOfSome : Type 0 where
+  pub pulse : variable_count (among (PULSE_TABLE ∷ [])) ≡ 79
+  pub effects : variable_count (among (EFFECTS ∷ [])) ≡ 63
+  pub effects_timer : variable_count (among (EFFECTS ∷ OWN_TIMER ∷ [])) ≡ 78
+  pub timer : variable_count (among (OWN_TIMER ∷ [])) ≡ 62
+
+counts_of_some : CountsOfSome
+unfolding voice_rows shared_rows asks has_byte voice_labels other_labels free_places funk_place variable_count
+counts_of_some = record { pulse = refl; effects = refl; effects_timer = refl; timer = refl }
 
 -- where no effect runs there is no command of the wave table, and none that slides
-abbrev silent : ℕ → Bool
-silent condition = not (nat_eq condition EFFECTS || (nat_eq condition WAVE_COMMAND || nat_eq condition ROW_SLIDE))
+abbrev silent : List ℕ
+silent = EFFECTS ∷ WAVE_COMMAND ∷ ROW_SLIDE ∷ []
 
-off_effects : variable_count silent ≡ 105
+pub record CountsOfOthers : Type 0 where
+  pub pulse : variable_count (λ condition. not (among (PULSE_TABLE ∷ []) condition)) ≡ 107
+  pub timer : variable_count (λ condition. not (among (OWN_TIMER ∷ []) condition)) ≡ 110
+  pub volume_timer : variable_count (λ condition. not (among (SET_VOLUME ∷ OWN_TIMER ∷ []) condition)) ≡ 109
+  pub effects : variable_count (λ condition. not (among silent condition)) ≡ 105
+  pub effects_timer : variable_count (λ condition. not (among (OWN_TIMER ∷ silent) condition)) ≡ 103
+
+counts_of_others : CountsOfOthers
 unfolding voice_rows shared_rows asks has_byte voice_labels other_labels free_places funk_place variable_count
-off_effects = refl
+counts_of_others = record { pulse = refl; timer = refl; volume_timer = refl; effects = refl; effects_timer = refl }
 
 last_two : (a b c d v w r : Bool) → (a || b || c || d || v || w || r) ≡ false → (w ≡ false) × (r ≡ false)
 last_two a b c d v w r none =
     let last = or_parts (a || b || c || d || v || w) r none in
     let one = or_parts (a || b || c || d || v) w last.0 in (one.1, last.1)
 
-without_effects : (asked : ℕ) (o : Options) → holds_in (kept_set asked o) EFFECTS ≡ false →
-    variable_count (holds_in (kept_set asked o)) ≤ 105
-without_effects asked o off =
+are_silent : (asked : ℕ) (o : Options) → holds_in (kept_set asked o) EFFECTS ≡ false →
+    AllByRecursion (λ one. holds_in (kept_set asked o) one ≡ false) silent
+are_silent asked o off =
     let none = last_two (is_in asked PORTA_UP) (is_in asked PORTA_DOWN) (is_in asked TONE_PORTA) (is_in asked TIE_NOTE)
     (asks_vibrato asked) (is_in asked WAVE_COMMAND) (is_in asked ROW_SLIDE)
     (sym (sets_are_exact asked o EFFECTS) ∙ off) in
-    let least = off_effects in
-    let rise = counts_rise (holds_in (kept_set asked o)) silent
-    (λ condition on.
-    other condition on (sets_are_exact asked o WAVE_COMMAND ∙ none.0) (sets_are_exact asked o ROW_SLIDE ∙ none.1)
-    (nat_eq condition EFFECTS) refl (nat_eq condition WAVE_COMMAND) refl (nat_eq condition ROW_SLIDE) refl) in
-    omega (arith, least, rise)
-  where
-    not_so : (condition known : ℕ) → holds_in (kept_set asked o) condition ≡ true →
-        holds_in (kept_set asked o) known ≡ false → nat_eq condition known ≡ true → ⊥
-    not_so condition known on none same =
-        true≢false (sym on ∙ (ap (holds_in (kept_set asked o)) (eqb-true condition known same) ∙ none))
-
-    other : (condition : ℕ) → holds_in (kept_set asked o) condition ≡ true →
-        holds_in (kept_set asked o) WAVE_COMMAND ≡ false → holds_in (kept_set asked o) ROW_SLIDE ≡ false →
-        (x : Bool) → nat_eq condition EFFECTS ≡ x → (y : Bool) → nat_eq condition WAVE_COMMAND ≡ y →
-        (z : Bool) → nat_eq condition ROW_SLIDE ≡ z → silent condition ≡ true
-    other condition on wave slide true e y f z g = absurd (not_so condition EFFECTS on off e)
-    other condition on wave slide false e true f z g = absurd (not_so condition WAVE_COMMAND on wave f)
-    other condition on wave slide false e false f true g = absurd (not_so condition ROW_SLIDE on slide g)
-    other condition on wave slide false e false f false g = rw (e, f, g) refl
+    (off, (sets_are_exact asked o WAVE_COMMAND ∙ none.0, (sets_are_exact asked o ROW_SLIDE ∙ none.1, tt)))
 
 -- ---- so it is within these
 
-abbrev Within : ℕ → Type 0
-Within n = (481 ≤ n) × (n ≤ 528)
+-- with what stands in the place of others there are at least so many
+at_least : (holds : ℕ → Bool) (pulse volume effects timer wave : Bool) → holds PULSE_TABLE ≡ pulse →
+    holds EFFECTS ≡ effects → holds OWN_TIMER ≡ timer →
+    67 ≤ variable_count holds + in_place_of pulse volume effects timer wave
+at_least holds true volume effects timer wave p e t =
+    omega (arith, counts_of_some.pulse, with_these holds (PULSE_TABLE ∷ []) (p, tt))
+at_least holds false volume true true wave p e t =
+    omega (arith, counts_of_some.effects_timer, with_these holds (EFFECTS ∷ OWN_TIMER ∷ []) (e, (t, tt)))
+at_least holds false volume true false wave p e t =
+    omega (arith, counts_of_some.effects, with_these holds (EFFECTS ∷ []) (e, tt))
+at_least holds false volume false true wave p e t =
+    omega (arith, counts_of_some.timer, with_these holds (OWN_TIMER ∷ []) (t, tt))
+at_least holds false volume false false wave p e t = omega (arith, counts_are_no_fewer holds)
 
-few_within : (n more : ℕ) → 67 ≤ n → n + more ≤ 114 → Within (414 + n + more)
-few_within n more many few = (omega (arith, many), omega (arith, few))
+no_more : (n : ℕ) (z : Bool) → (if z then 0 else n) ≤ n
+no_more n true = omega arith
+no_more n false = omega arith
 
-alone : (n more : ℕ) → 62 ≤ n → 5 ≤ more → n + more ≤ 114 → Within (414 + n + more)
-alone n more many some few = (omega (arith, many, some), omega (arith, few))
-
--- by the pulse table, the volume and the effects
-numbers : (asked : ℕ) (o : Options) (pulse volume effects : Bool) → holds_in (kept_set asked o) PULSE_TABLE ≡ pulse →
-    holds_in (kept_set asked o) SET_VOLUME ≡ volume → holds_in (kept_set asked o) EFFECTS ≡ effects →
-    Within (414 + variable_count (holds_in (kept_set asked o)) + in_place_of pulse volume effects)
-numbers asked o true true true p v e =
-    let least = on_one in
-    let rise = with_one (holds_in (kept_set asked o)) PULSE_TABLE p in
-    let few = (counts_are_few (holds_in (kept_set asked o))).1 in
-    few_within (variable_count (holds_in (kept_set asked o))) 0 (omega (arith, least, rise)) (omega (arith, few))
-numbers asked o true false true p v e =
-    let least = on_one in
-    let rise = with_one (holds_in (kept_set asked o)) PULSE_TABLE p in
-    let most = off_volume in
-    let few = without (holds_in (kept_set asked o)) SET_VOLUME v in
-    few_within (variable_count (holds_in (kept_set asked o))) 2 (omega (arith, least, rise)) (omega (arith, most, few))
-numbers asked o true true false p v e =
-    let least = on_one in
-    let rise = with_one (holds_in (kept_set asked o)) PULSE_TABLE p in
-    let few = without_effects asked o e in
-    few_within (variable_count (holds_in (kept_set asked o))) 3 (omega (arith, least, rise)) (omega (arith, few))
-numbers asked o true false false p v e =
-    let least = on_one in
-    let rise = with_one (holds_in (kept_set asked o)) PULSE_TABLE p in
-    let few = without_effects asked o e in
-    few_within (variable_count (holds_in (kept_set asked o))) 5 (omega (arith, least, rise)) (omega (arith, few))
-numbers asked o false true true p v e =
-    let least = on_other in
-    let rise = with_one (holds_in (kept_set asked o)) EFFECTS e in
-    let most = off_pulse in
-    let few = without (holds_in (kept_set asked o)) PULSE_TABLE p in
-    few_within (variable_count (holds_in (kept_set asked o))) 2 (omega (arith, least, rise)) (omega (arith, most, few))
-numbers asked o false false true p v e =
-    let least = on_other in
-    let rise = with_one (holds_in (kept_set asked o)) EFFECTS e in
-    let most = off_pulse in
-    let few = without (holds_in (kept_set asked o)) PULSE_TABLE p in
-    few_within (variable_count (holds_in (kept_set asked o))) 4 (omega (arith, least, rise)) (omega (arith, most, few))
-numbers asked o false true false p v e =
-    let least = counts_are_no_fewer (holds_in (kept_set asked o)) in
-    let few = without_effects asked o e in
-    alone (variable_count (holds_in (kept_set asked o))) 5 least (omega arith) (omega (arith, few))
-numbers asked o false false false p v e =
-    let least = counts_are_no_fewer (holds_in (kept_set asked o)) in
-    let few = without_effects asked o e in
-    alone (variable_count (holds_in (kept_set asked o))) 7 least (omega arith) (omega (arith, few))
+-- and at most so many
+at_most : (asked : ℕ) (o : Options) (pulse volume effects timer wave : Bool) →
+    holds_in (kept_set asked o) PULSE_TABLE ≡ pulse → holds_in (kept_set asked o) SET_VOLUME ≡ volume →
+    holds_in (kept_set asked o) EFFECTS ≡ effects → holds_in (kept_set asked o) OWN_TIMER ≡ timer →
+    variable_count (holds_in (kept_set asked o)) + in_place_of pulse volume effects timer wave ≤ 120
+at_most asked o pulse volume false true wave p v e t =
+    omega (
+      arith,
+      counts_of_others.effects,
+      without_these (holds_in (kept_set asked o)) silent (are_silent asked o e),
+      no_more 2 pulse,
+      no_more 2 volume,
+      no_more 3 wave,
+    )
+at_most asked o pulse volume false false wave p v e t =
+    omega (
+      arith,
+      counts_of_others.effects_timer,
+      without_these (holds_in (kept_set asked o)) (OWN_TIMER ∷ silent) (t, are_silent asked o e),
+      no_more 2 pulse,
+      no_more 2 volume,
+      no_more 3 wave,
+    )
+at_most asked o false volume true timer wave p v e t =
+    omega (
+      arith,
+      counts_of_others.pulse,
+      without_these (holds_in (kept_set asked o)) (PULSE_TABLE ∷ []) (p, tt),
+      no_more 2 volume,
+      no_more 6 timer,
+      no_more 3 wave,
+    )
+at_most asked o true volume true true wave p v e t =
+    omega (arith, (counts_are_few (holds_in (kept_set asked o))).1, no_more 2 volume, no_more 3 wave)
+at_most asked o true true true false wave p v e t =
+    omega (
+      arith,
+      counts_of_others.timer,
+      without_these (holds_in (kept_set asked o)) (OWN_TIMER ∷ []) (t, tt),
+      no_more 3 wave,
+    )
+at_most asked o true false true false wave p v e t =
+    omega (
+      arith,
+      counts_of_others.volume_timer,
+      without_these (holds_in (kept_set asked o)) (SET_VOLUME ∷ OWN_TIMER ∷ []) (v, (t, tt)),
+      no_more 3 wave,
+    )
 
 pub rest_is_bounded : RestIsBounded
 rest_is_bounded asked o =
     let holds = holds_in (kept_set asked o) in
-    let exact = sym (rest_is_exact asked o) in
-    let within = numbers asked o (holds PULSE_TABLE) (holds SET_VOLUME) (holds EFFECTS) refl refl refl in
-    record { from = subst (λ (n : ℕ). 481 ≤ n) exact within.0; to = subst (λ (n : ℕ). n ≤ 528) exact within.1 }
+    let exact = rest_is_exact asked o in
+    let least = at_least holds (holds PULSE_TABLE) (holds SET_VOLUME) (holds EFFECTS) (holds OWN_TIMER)
+    (holds OWN_WAVE) refl refl refl in
+    let most = at_most asked o (holds PULSE_TABLE) (holds SET_VOLUME) (holds EFFECTS) (holds OWN_TIMER)
+    (holds OWN_WAVE) refl refl refl refl in
+    record {
+      from = from _ (variable_count holds) (in_place holds) exact least;
+      to = to _ (variable_count holds) (in_place holds) exact most;
+    }
+  where
+    from : (rest variables more : ℕ) → rest ≡ 397 + variables + more → 67 ≤ variables + more → 464 ≤ rest
+    from rest variables more is least = omega (arith, is, least)
+
+    to : (rest variables more : ℕ) → rest ≡ 397 + variables + more → variables + more ≤ 120 → rest ≤ 517
+    to rest variables more is most = omega (arith, is, most)

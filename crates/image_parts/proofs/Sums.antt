@@ -86,30 +86,30 @@ kept_is asked o =
     let holds = holds_in (kept_set asked o) in
     all_around holds (variable_count holds) filter_tree voice_tree (init_tree (start_of o) (variable_count holds))
 
--- a condition that holds is one of 55
-few_hold : (asked : ℕ) (o : Options) (part : ℕ) → holds_in (kept_set asked o) part ≡ true → part < 55
-few_hold asked o part holds = elim (cases_lt part 55) [
+-- a condition that holds is one of 57
+few_hold : (asked : ℕ) (o : Options) (part : ℕ) → holds_in (kept_set asked o) part ≡ true → part < 57
+few_hold asked o part holds = elim (cases_lt part 57) [
   | inl low ↦ low
   | inr high ↦
       absurd (true≢false (sym holds ∙ sets_are_exact asked o part ∙ no_more asked o part high))
 ]
 
-pub all_are_parts : (asked : ℕ) (o : Options) → All (IsPart always 55) (code_parts asked o)
+pub all_are_parts : (asked : ℕ) (o : Options) → All (IsPart always 57) (code_parts asked o)
 all_are_parts asked o =
-    All-weaker (IsKept (holds_in (kept_set asked o))) (IsPart always 55) weaker (code_parts asked o)
+    All-weaker (IsKept (holds_in (kept_set asked o))) (IsPart always 57) weaker (code_parts asked o)
     (kept_is asked o)
   where
-    weaker : (part : ℕ) → IsKept (holds_in (kept_set asked o)) part → IsPart always 55 part
+    weaker : (part : ℕ) → IsKept (holds_in (kept_set asked o)) part → IsPart always 57 part
     weaker part (inl is) = inl is
     weaker part (inr holds) = inr (few_hold asked o part holds)
 
 -- ---- sums
 
-sum_of_all : (number : ℕ → ℕ) → sum_by number (range_with_len 0 55) ≡ below number 55
+sum_of_all : (number : ℕ → ℕ) → sum_by number (range_with_len 0 57) ≡ below number 57
 sum_of_all number = omega arith
 
 -- a part below the last one is counted without the zeros
-own_bytes : (code : List ℕ) (part : ℕ) → part < 55 →
+own_bytes : (code : List ℕ) (part : ℕ) → part < 57 →
     bytes_of part code ≡ bytes_of part code + (if part == always then 2 else 0)
 own_bytes code part few =
     rw (ne_eqb part always (λ is. omega (arith, few, is))) (plain (bytes_of part code))
@@ -120,8 +120,8 @@ own_bytes code part few =
 pub parts_add_up : PartsAddUp
 parts_add_up asked o =
     let code = code_parts asked o in
-    let all = counted always 55 (omega arith) code (all_are_parts asked o) in
-    let same = below_same (λ part. bytes_of part code) (part_length asked o) 55 (own_bytes code) in
+    let all = counted always 57 (omega arith) code (all_are_parts asked o) in
+    let same = below_same (λ part. bytes_of part code) (part_length asked o) 57 (own_bytes code) in
     let sum = sum_of_all (part_length asked o) in
     add (length code) (bytes_of always code) _ _ _ all same sum
   where

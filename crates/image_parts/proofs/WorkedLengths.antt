@@ -21,7 +21,15 @@ pub frequencies_are_measured : FrequenciesAreMeasured
 frequencies_are_measured = record { long = refl; just_long = refl; short = refl; all = refl; last = refl; none = refl }
 
 pub read_bytes_are_measured : ReadBytesAreMeasured
-read_bytes_are_measured = record { none = refl; each = refl; all = refl; others = refl }
+read_bytes_are_measured = record {
+  none = refl;
+  each = refl;
+  own = refl;
+  timers = refl;
+  both = refl;
+  all = refl;
+  others = refl;
+}
 
 pub parts_are_measured : PartsAreMeasured
 unfolding kept_set voice_rows shared_rows asks has_byte voice_labels other_labels free_places funk_place variable_count
@@ -89,19 +97,19 @@ note_asks packed is =
     ∙ note_asked
 
 -- how long their code is
-silence_with_none : code_length (2 ^ 37) no_options ≡ 489
+silence_with_none : code_length (2 ^ 37) no_options ≡ 480
 unfolding kept_set voice_rows shared_rows asks has_byte voice_labels other_labels free_places funk_place variable_count
 silence_with_none = refl
 
-silence_with_all : code_length (2 ^ 37) (all_left_out 4) ≡ 545
+silence_with_all : code_length (2 ^ 37) (all_left_out 4) ≡ 536
 unfolding kept_set voice_rows shared_rows asks has_byte voice_labels other_labels free_places funk_place variable_count
 silence_with_all = refl
 
-note_with_none : code_length (0x402000 + 2 ^ 41 + 2 ^ 44) no_options ≡ 659
+note_with_none : code_length (0x402000 + 2 ^ 41 + 2 ^ 44) no_options ≡ 650
 unfolding kept_set voice_rows shared_rows asks has_byte voice_labels other_labels free_places funk_place variable_count
 note_with_none = refl
 
-note_with_all : code_length (0x402000 + 2 ^ 41 + 2 ^ 44) (all_left_out 4) ≡ 715
+note_with_all : code_length (0x402000 + 2 ^ 41 + 2 ^ 44) (all_left_out 4) ≡ 706
 unfolding kept_set voice_rows shared_rows asks has_byte voice_labels other_labels free_places funk_place variable_count
 note_with_all = refl
 
@@ -130,21 +138,21 @@ note_lists packed is = ap (λ (range : NumberRange). frequency_bytes range 39) i
 pub silences_are_measured : SilencesAreMeasured
 silences_are_measured packed is = record {
   with_none =
-      all_of packed no_options (2 ^ 37) 24 0 0 489 (silence_asks packed is) (silence_size packed is) refl
+      all_of packed no_options (2 ^ 37) 24 0 0 480 (silence_asks packed is) (silence_size packed is) refl
       (silence_lists packed is) silence_with_none;
   with_all =
-      all_of packed (all_left_out 4) (2 ^ 37) 24 0 0 545 (silence_asks packed is) (silence_size packed is) refl
+      all_of packed (all_left_out 4) (2 ^ 37) 24 0 0 536 (silence_asks packed is) (silence_size packed is) refl
       (silence_lists packed is) silence_with_all;
 }
 
 pub notes_are_measured : NotesAreMeasured
 notes_are_measured packed is = record {
   with_none =
-      all_of packed no_options (0x402000 + 2 ^ 41 + 2 ^ 44) 39 0 9 659 (note_asks packed is) (note_size packed is)
+      all_of packed no_options (0x402000 + 2 ^ 41 + 2 ^ 44) 39 0 9 650 (note_asks packed is) (note_size packed is)
       refl
       (note_lists packed is) note_with_none;
   with_all =
-      all_of packed (all_left_out 4) (0x402000 + 2 ^ 41 + 2 ^ 44) 39 0 9 715 (note_asks packed is)
+      all_of packed (all_left_out 4) (0x402000 + 2 ^ 41 + 2 ^ 44) 39 0 9 706 (note_asks packed is)
       (note_size packed is) refl
       (note_lists packed is) note_with_all;
 }

@@ -1,11 +1,12 @@
 -- How many bytes an image takes. This is the project's own player.
-use Rattle.std.specs.Prelude.{ℕ, ◌+◌, ◌-◌, ◌*◌, if◌then◌else◌, List, length}
+use Rattle.std.specs.Prelude.{ℕ, ◌+◌, ◌-◌, ◌*◌, if◌then◌else◌, ◌||◌, List, length}
 use Rattle.play_model.specs.declared.options.Options.{Options}
 use Rattle.asked_numbers.specs.declared.range.NumberRange.{NumberRange}
 use Rattle.packed_form.specs.declared.packed_songs.PackedSong.{PackedSong}
 use Rattle.packed_form.specs.Sizes.{packed_song_size}
 use Rattle.player_memory.specs.declared.conditions.TheConstants.{NOTE_DEPENDENT, NOTE_PULSE, NOTE_FILTER}
-use Rattle.player_memory.specs.declared.conditions.TheConstants.{NOTE_VIBRATO, VIBRATO_DELAY}
+use Rattle.player_memory.specs.declared.conditions.TheConstants.{NOTE_VIBRATO, VIBRATO_DELAY, LEGATO, NO_HARD_RESTART}
+use Rattle.player_memory.specs.declared.conditions.TheConstants.{OWN_TIMER, OWN_WAVE}
 use Rattle.player_memory.specs.Gaps.{gap_in}
 use Rattle.kept_lines.specs.Asked.{is_in, asked_by}
 use Rattle.image_parts.specs.CodeParts.{zero_bytes, length_of, code_parts}
@@ -16,18 +17,28 @@ abbrev pub slide_bytes : ℕ → ℕ → ℕ
 slide_bytes asked rows = if is_in asked NOTE_DEPENDENT then 3 * (rows + 1) else 0
 
 -- Of so many instruments these bytes aren't read, and stand nowhere: of each of them the pulse program, the filter
--- program, the vibrato and its delay, where no instrument that the song uses has one.
+-- program, the vibrato and its delay, where no instrument that the song uses has one; the gateoff timer, where no two
+-- differ in it, and none keeps the gate or the envelope; and the first waveform, where no two differ in that.
 abbrev pub unread_of : ℕ → ℕ → ℕ → ℕ
 unread_of asked condition instruments = if is_in asked condition then 0 else instruments
+
+abbrev pub unread_timers : ℕ → ℕ → ℕ
+unread_timers asked instruments =
+    if is_in asked OWN_TIMER || is_in asked LEGATO || is_in asked NO_HARD_RESTART then 0 else instruments
 
 abbrev pub unread_bytes : ℕ → ℕ → ℕ
 unread_bytes asked instruments =
     unread_of asked NOTE_PULSE instruments + unread_of asked NOTE_FILTER instruments
     + unread_of asked NOTE_VIBRATO instruments + unread_of asked VIBRATO_DELAY instruments
+    + unread_timers asked instruments + unread_of asked OWN_WAVE instruments
 
--- what is read of a packed song of so many instruments and bytes
+-- and these stand alone for all of them: a gateoff timer and a first waveform, each where no two differ in theirs
+abbrev pub shared_bytes : ℕ → ℕ
+shared_bytes asked = (if is_in asked OWN_TIMER then 0 else 1) + (if is_in asked OWN_WAVE then 0 else 1)
+
+-- what is read of a packed song of so many instruments and bytes, with what stands alone for all instruments
 abbrev pub read_bytes : ℕ → ℕ → ℕ → ℕ
-read_bytes asked instruments size = size - unread_bytes asked instruments
+read_bytes asked instruments size = size + shared_bytes asked - unread_bytes asked instruments
 
 -- The frequencies of a range of numbers have two bytes each. In front of them stand the two zeros, so many bytes that
 -- are read of the packed song, and the zeros that fill the gap.

@@ -7,13 +7,13 @@ use Rattle.packed_form.specs.declared.packed_songs.PackedSong.{PackedSong}
 use Rattle.packed_form.specs.Sizes.{packed_song_size}
 use Rattle.packed_form.specs.CodeBounds.{code_bound}
 use Rattle.scope_lines.specs.Readings.{holds_in}
-use Rattle.player_memory.specs.declared.conditions.TheConstants.{PULSE_TABLE, SET_VOLUME, EFFECTS}
+use Rattle.player_memory.specs.declared.conditions.TheConstants.{PULSE_TABLE, SET_VOLUME, EFFECTS, OWN_TIMER, OWN_WAVE}
 use Rattle.kept_lines.specs.Starts.{start_of}
 use Rattle.kept_lines.specs.KeptLines.{keeps, kept_set}
 use Rattle.variable_places.specs.Places.{variable_count}
 use Rattle.player_code.specs.CodeLaws.{code_takes}
 use Rattle.image_parts.specs.CodeParts.{always, code_parts, part_length, code_length}
-use Rattle.image_parts.specs.Lengths.{slide_bytes, frequency_bytes, image_length}
+use Rattle.image_parts.specs.Lengths.{slide_bytes, shared_bytes, frequency_bytes, image_length}
 
 -- there are as many as the code has bytes
 abbrev pub CodeTakesItsParts : Type 0
@@ -22,11 +22,11 @@ CodeTakesItsParts =
     length (code_parts asked o)
     ≡ code_takes (holds_in (kept_set asked o)) (start_of o) (variable_count (holds_in (kept_set asked o)))
 
--- the code is the part that each image has and the 55 others
+-- the code is the part that each image has and the 57 others
 abbrev pub PartsAddUp : Type 0
 PartsAddUp =
     (asked : ℕ) (o : Options) →
-    code_length asked o ≡ part_length asked o always + sum_by (part_length asked o) (range_with_len 0 55)
+    code_length asked o ≡ part_length asked o always + sum_by (part_length asked o) (range_with_len 0 57)
 
 -- a part whose condition doesn't hold has no bytes
 abbrev pub UnkeptPartsHaveNone : Type 0
@@ -43,22 +43,25 @@ abbrev pub PartsAreShort : Type 0
 PartsAreShort = (asked : ℕ) (o : Options) → AreShort asked o
 
 -- what stands in the place of lines that aren't kept: two bytes where no pulse program runs, two where no command sets
--- the volume, and three where no effect runs
+-- the volume, three where no effect runs, six where no two instruments differ in their gateoff timers, and three where
+-- none do in their first waveforms
 abbrev pub in_place : (ℕ → Bool) → ℕ
 in_place holds =
     (if holds PULSE_TABLE then 0 else 2) + (if holds SET_VOLUME then 0 else 2) + (if holds EFFECTS then 0 else 3)
+    + (if holds OWN_TIMER then 0 else 6) + (if holds OWN_WAVE then 0 else 3)
 
--- the part that each image has is these, the variables, and 414 bytes with the zeros
+-- the part that each image has is these, the variables, and 397 bytes with the zeros
 abbrev pub RestIsExact : Type 0
 RestIsExact =
     (asked : ℕ) (o : Options) →
     part_length asked o always
-    ≡ 414 + variable_count (holds_in (kept_set asked o)) + in_place (holds_in (kept_set asked o))
+    ≡ 397 + variable_count (holds_in (kept_set asked o)) + in_place (holds_in (kept_set asked o))
 
--- so it has no fewer than where the volume is set and nothing else is asked for, and no more than where all is but this
+-- So it has no fewer than where the volume is set, instruments differ in their gateoff timers and in their first
+-- waveforms, and nothing else is asked for; and no more than where all is but these three.
 pub record RestIsWithin (asked : ℕ) (o : Options) : Type 0 where
-  pub from : 481 ≤ part_length asked o always
-  pub to : part_length asked o always ≤ 528
+  pub from : 464 ≤ part_length asked o always
+  pub to : part_length asked o always ≤ 517
 
 abbrev pub RestIsBounded : Type 0
 RestIsBounded = (asked : ℕ) (o : Options) → RestIsWithin asked o
@@ -67,12 +70,14 @@ RestIsBounded = (asked : ℕ) (o : Options) → RestIsWithin asked o
 abbrev pub CodeIsShort : Type 0
 CodeIsShort = (asked : ℕ) (o : Options) → code_length asked o ≤ 1668
 
--- an image is within the bound of a packed song and its player: the code with the slides, of 255 rows at most, and with
--- the frequencies, up to that of number 128 at most, is within the player's, whichever features that is for
+-- an image is within the bound of a packed song and its player: the code with what stands alone for all instruments,
+-- with the slides, of 255 rows at most, and with the frequencies, up to that of number 128 at most, is within the
+-- player's, whichever features that is for
 abbrev pub CodeIsBounded : Type 0
 CodeIsBounded =
     (asked features rows size : ℕ) (range : NumberRange) (o : Options) → rows ≤ 255 → range.first + range.count ≤ 129 →
-    slide_bytes asked rows + frequency_bytes range size + code_length asked o ≤ code_bound features o
+    shared_bytes asked + slide_bytes asked rows + frequency_bytes range size + code_length asked o
+    ≤ code_bound features o
 
 abbrev pub ImagesAreBounded : Type 0
 ImagesAreBounded =

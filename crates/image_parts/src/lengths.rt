@@ -9,7 +9,7 @@ use crate::parts::ALWAYS;
 use kept_lines::{Conditions, asked_by};
 use packed_form::PackedSong;
 use player_memory::conditions::NOTE_DEPENDENT;
-use player_memory::{gap_size, unread_size};
+use player_memory::{bytes_read, gap_size};
 
 /// The two zeros that every image has among its lists, for row 0 of the sides of the speed table.
 const ZERO_BYTES: u32 = 2;
@@ -64,13 +64,13 @@ pub fn slide_bytes(asked: Conditions, rows: u32) -> u32
     }
 }
 
-/// The bytes of a packed song that the player reads, and that stand in an image: all but those of the fields of
-/// instruments that no line reads.
+/// The bytes of a packed song that the player reads, and that stand in an image: those of the fields of instruments that
+/// no line reads are left out, and those that stand alone for all instruments come in.
 pub fn read_size(packed: &PackedSong) -> u32
     ensures bytes { result ≡ read_of packed.now }
-    ensures most { result ≤ 81039 }
+    ensures most { result ≤ 81041 }
 {
-    packed.size() - unread_size(packed)
+    bytes_read(packed)
 }
 
 /// The bytes of the frequencies of a packed song, two of each, and of the gap in front of them.

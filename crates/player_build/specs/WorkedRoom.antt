@@ -4,13 +4,13 @@ use Rattle.packed_form.specs.declared.packed_songs.PackedSong.{PackedSong}
 use Rattle.image_parts.specs.WorkedLengths.{IsPlayedNote}
 use Rattle.player_build.specs.Room.{IsTooLarge}
 
--- $CD3D and 707 bytes are $D000; the last page from which the image has room is $CD00; and its length is told
+-- $CD46 and 698 bytes are $D000; the last page from which the image has room is $CD00; and its length is told
 pub record NoteHasRoom (packed : PackedSong) : Type 0 where
-  pub just : IsTooLarge packed no_options 0xCD3D 707 → ⊥
-  pub past : IsTooLarge packed no_options 0xCD3E 707
-  pub last_page : IsTooLarge packed no_options 0xCD00 707 → ⊥
-  pub next_page : IsTooLarge packed no_options 0xCE00 707
-  pub other_length : IsTooLarge packed no_options 0xCE00 708 → ⊥
+  pub just : IsTooLarge packed no_options 0xCD46 698 → ⊥
+  pub past : IsTooLarge packed no_options 0xCD47 698
+  pub last_page : IsTooLarge packed no_options 0xCD00 698 → ⊥
+  pub next_page : IsTooLarge packed no_options 0xCE00 698
+  pub other_length : IsTooLarge packed no_options 0xCE00 699 → ⊥
 
 abbrev pub NotesHaveRoom : Type 0
 NotesHaveRoom = (packed : PackedSong) → IsPlayedNote packed → NoteHasRoom packed

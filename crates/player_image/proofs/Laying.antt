@@ -398,6 +398,8 @@ module _ (packed : PackedSong) (o : Options) (origin pointer : ℕ) (variables :
         uses = uses;
         next = laid.next;
         lists = laid.lists;
+        timer = laid.timer;
+        wave = laid.wave;
         orders = laid.orders;
         patterns = laid.patterns;
       }

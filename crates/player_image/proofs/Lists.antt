@@ -10,7 +10,7 @@ use Rattle.asm6502.specs.declared.lines.Item.TheVariants.{Label, Code, Bytes}
 use Rattle.asm6502.specs.declared.lines.Line.{Line}
 use Rattle.asm6502.specs.Lines.{label_named}
 use Rattle.packed_form.specs.declared.packed_songs.PackedSong.{PackedSong}
-use Rattle.player_memory.specs.declared.labels.TheConstants.{FREQUENCY_LOWS, PATTERNS_HIGH, SLIDES_LOW, SLIDES_HIGH}
+use Rattle.player_memory.specs.declared.labels.TheConstants.{FREQUENCY_LOWS, ONE_WAVE, SLIDES_LOW, SLIDES_HIGH}
 use Rattle.player_memory.specs.declared.labels.TheConstants.{FILTER_LEFTS, NEXT_FILTER_LEFTS, FILTER_RIGHTS}
 use Rattle.player_memory.specs.declared.labels.TheConstants.{ORDERS_LOW, ORDERS_HIGH}
 use Rattle.player_text.specs.Facts.{is_list, is_filter_list, is_order_list}
@@ -42,7 +42,7 @@ item_is (Bytes bytes) plain own = tt
 
 -- ---- labels
 
-low_label : (label other : ℕ) → FREQUENCY_LOWS ≤ other → other ≤ PATTERNS_HIGH → (label == other) ≡ true →
+low_label : (label other : ℕ) → FREQUENCY_LOWS ≤ other → other ≤ ONE_WAVE → (label == other) ≡ true →
     IsListLabel label
 low_label label other from to e = (let is = eqb-true label other e in inl (omega (arith, is, from), omega (arith, is, to)))
 
@@ -52,13 +52,13 @@ high_label label other from to e = (let is = eqb-true label other e in inr (omeg
 
 list_is : (label : ℕ) → is_list label ≡ true → IsListLabel label
 list_is label e =
-    elim (or_cases (nat_le FREQUENCY_LOWS label && nat_le label PATTERNS_HIGH || label == SLIDES_LOW)
+    elim (or_cases (nat_le FREQUENCY_LOWS label && nat_le label ONE_WAVE || label == SLIDES_LOW)
     (label == SLIDES_HIGH) e) [
       | inl low ↦
-          elim (or_cases (nat_le FREQUENCY_LOWS label && nat_le label PATTERNS_HIGH) (label == SLIDES_LOW) low) [
+          elim (or_cases (nat_le FREQUENCY_LOWS label && nat_le label ONE_WAVE) (label == SLIDES_LOW) low) [
             | inl row ↦
-                let both = and_parts (nat_le FREQUENCY_LOWS label) (nat_le label PATTERNS_HIGH) row in
-                inl (leb-true FREQUENCY_LOWS label both.0, leb-true label PATTERNS_HIGH both.1)
+                let both = and_parts (nat_le FREQUENCY_LOWS label) (nat_le label ONE_WAVE) row in
+                inl (leb-true FREQUENCY_LOWS label both.0, leb-true label ONE_WAVE both.1)
             | inr slides ↦ high_label label SLIDES_LOW (omega arith) (omega arith) slides
           ]
       | inr slides ↦ high_label label SLIDES_HIGH (omega arith) (omega arith) slides

@@ -72,25 +72,28 @@ more_order_bytes start before one two after subtunes i x inside is old first sec
     three_more lists a b c = simp append_assoc
 
 -- all lists
-pub all_lists : (a k b c d e f g : List (List ℕ)) (first kept second third fourth fifth sixth all addresses : List ℕ) →
+pub all_lists : (a k b c s d e f g : List (List ℕ))
+    (first kept second third shared fourth fifth sixth all addresses : List ℕ) →
     first ≡ [] ++ concat a → kept ≡ first ++ concat k → second ≡ kept ++ concat b → third ≡ second ++ concat c →
-    addresses ≡ concat d → fourth ≡ third ++ addresses → fifth ≡ fourth ++ concat e → sixth ≡ fifth ++ concat f →
-    all ≡ sixth ++ concat g →
-    all ≡ concat (a ++ (k ++ (b ++ (c ++ (d ++ (e ++ (f ++ g)))))))
-all_lists a k b c d e f g first kept second third fourth fifth sixth all addresses one more two three is four five six
-    seven =
+    shared ≡ third ++ concat s → addresses ≡ concat d → fourth ≡ shared ++ addresses → fifth ≡ fourth ++ concat e →
+    sixth ≡ fifth ++ concat f → all ≡ sixth ++ concat g →
+    all ≡ concat (a ++ (k ++ (b ++ (c ++ (s ++ (d ++ (e ++ (f ++ g))))))))
+all_lists a k b c s d e f g first kept second third shared fourth fifth sixth all addresses one more two three alone is
+    four five six seven =
     seven ∙ ap (λ (bytes : List ℕ). bytes ++ concat g)
     (six ∙ ap (λ (bytes : List ℕ). bytes ++ concat f)
     (five ∙ ap (λ (bytes : List ℕ). bytes ++ concat e)
-    (four ∙ ap (λ (bytes : List ℕ). third ++ bytes) is ∙ ap (λ (bytes : List ℕ). bytes ++ concat d)
+    (four ∙ ap (λ (bytes : List ℕ). shared ++ bytes) is ∙ ap (λ (bytes : List ℕ). bytes ++ concat d)
+    (alone ∙ ap (λ (bytes : List ℕ). bytes ++ concat s)
     (three ∙ ap (λ (bytes : List ℕ). bytes ++ concat c) (two ∙ ap (λ (bytes : List ℕ). bytes ++ concat b)
-    (more ∙ ap (λ (bytes : List ℕ). bytes ++ concat k) one))))))
-    ∙ joined a k b c d e f g
+    (more ∙ ap (λ (bytes : List ℕ). bytes ++ concat k) one)))))))
+    ∙ joined a k b c s d e f g
   where
-    joined : (a k b c d e f g : List (List ℕ)) →
-        ((((((concat a ++ concat k) ++ concat b) ++ concat c) ++ concat d) ++ concat e) ++ concat f) ++ concat g
-        ≡ concat (a ++ (k ++ (b ++ (c ++ (d ++ (e ++ (f ++ g)))))))
-    joined a k b c d e f g = simp (concat-append, append_assoc)
+    joined : (a k b c s d e f g : List (List ℕ)) →
+        (((((((concat a ++ concat k) ++ concat b) ++ concat c) ++ concat s) ++ concat d) ++ concat e) ++ concat f)
+        ++ concat g
+        ≡ concat (a ++ (k ++ (b ++ (c ++ (s ++ (d ++ (e ++ (f ++ g))))))))
+    joined a k b c s d e f g = simp (concat-append, append_assoc)
 
 -- the addresses of these places
 pub four_address_lists : (start : ℕ) (orders orders' patterns patterns' : List ℕ) → orders ≡ orders' →

@@ -10,11 +10,12 @@ use Rattle.player_memory.specs.SongLists.{Instruments, gap_size}
 use Rattle.song_lists.specs.declared.marks.Mark.{Mark}
 use Rattle.song_lists.specs.DataLists.{all_orders, slides_low_place, slides_high_place, periods_place, orders_place}
 use Rattle.song_lists.specs.DataLists.{patterns_place, places_from, order_places, pattern_places, data_bytes, own_mark}
-use Rattle.song_lists.specs.DataLists.{frequencies_place, bytes_back, frequency_marks, speed_marks, wave_marks, pulse_marks, filter_marks, instrument_marks}
-use Rattle.song_lists.specs.DataLists.{address_marks, slide_marks, list_marks, data_marks}
+use Rattle.song_lists.specs.DataLists.{one_wave_place, frequencies_place, bytes_back, frequency_marks, speed_marks}
+use Rattle.song_lists.specs.DataLists.{wave_marks, pulse_marks, filter_marks, instrument_marks}
+use Rattle.song_lists.specs.DataLists.{address_marks, shared_marks, slide_marks, list_marks, data_marks}
 use Rattle.song_lists.specs.ListLaws.{lists_size}
 use Rattle.song_lists.proofs.Pieces.{places_count, size_within, place_at}
-use Rattle.song_lists.proofs.Lists.{field_sums, whole_length, texts_end, frequency_labels}
+use Rattle.song_lists.proofs.Lists.{lengths, field_sums, whole_length, texts_end, frequency_labels}
 use Rattle.song_lists.proofs.DataMarks.{marks_between, all_of_three}
 
 abbrev IsUpTo : ℕ → Mark → Type 0
@@ -42,9 +43,15 @@ periods_within : (dependent : Bool) (packed : PackedSong) →
 periods_within true packed = omega arith
 periods_within false packed = omega arith
 
+-- the second byte for all instruments is among as many as there are
+wave_within : (dependent : Bool) (packed : PackedSong) →
+    one_wave_place dependent packed ≤ orders_place dependent packed
+wave_within dependent packed = (let each = (lengths dependent packed 0).wave in omega arith)
+
 -- the last ones, from the addresses and from the instruments on
 abbrev behind_instruments : Bool → PackedSong → List Mark
-behind_instruments dependent packed = address_marks dependent packed ++ slide_marks dependent packed
+behind_instruments dependent packed =
+    address_marks dependent packed ++ (shared_marks dependent packed ++ slide_marks dependent packed)
 
 abbrev behind_tables : Bool → PackedSong → List Mark
 behind_tables dependent packed = instrument_marks dependent packed ++ behind_instruments dependent packed
@@ -68,8 +75,14 @@ others_within dependent packed =
           (
             omega arith,
             (
-              low_within dependent packed,
-              (high_within dependent packed, tt),
+              omega arith,
+              (
+                wave_within dependent packed,
+                (
+                  low_within dependent packed,
+                  (high_within dependent packed, tt),
+                ),
+              ),
             ),
           ),
         ),

@@ -12,11 +12,12 @@ use Rattle.packed_form.specs.Unpacked.{unpacked_song}
 use Rattle.asm6502.specs.Standing.{BytesStand}
 use Rattle.scopes.specs.Desk.{Layout}
 use Rattle.player_memory.specs.declared.conditions.TheConstants.{NOTE_DEPENDENT}
-use Rattle.player_memory.specs.declared.labels.TheConstants.{ORDERS, SLIDES_LOW, SLIDES_HIGH}
+use Rattle.player_memory.specs.declared.labels.TheConstants.{ORDERS, SLIDES_LOW, SLIDES_HIGH, ONE_TIMER, ONE_WAVE}
 use Rattle.player_memory.specs.Playing.{place_in}
 use Rattle.player_memory.specs.Fetching.{place_before}
 use Rattle.player_memory.specs.SongLists.{SongList, FrequencyLows, FrequencyHighs, Lefts, Rights, Periods, Instruments}
-use Rattle.player_memory.specs.SongLists.{OrderLows, OrderHighs, PatternLows, PatternHighs, OrderBytes, PatternBytes}
+use Rattle.player_memory.specs.SongLists.{OneTimer, OneWave, OrderLows, OrderHighs, PatternLows, PatternHighs}
+use Rattle.player_memory.specs.SongLists.{OrderBytes, PatternBytes}
 use Rattle.player_memory.specs.SongLists.{IsSongList, HasNumber, SlidesStand, list_label, list_length, first_number}
 use Rattle.player_memory.specs.SongLists.{slide_rows}
 use Rattle.player_memory.specs.Holds.{AreNext}
@@ -26,7 +27,7 @@ use Rattle.song_lists.specs.DataLists.{frequencies_place, bytes_back, pattern_pl
 use Rattle.song_lists.specs.ListLaws.{lists_size, IsListLayout, IsInside, IsBesideSlides, DataStandsIn}
 use Rattle.song_lists.specs.ListLaws.{PatternStandsInside, SlidesStandInside}
 use Rattle.song_lists.proofs.Pieces.{StandsIn, size_within, place_at, orders_count}
-use Rattle.song_lists.proofs.Lists.{data_takes_size, texts_end, frequency_labels}
+use Rattle.song_lists.proofs.Lists.{lengths, data_takes_size, texts_end, frequency_labels}
 use Rattle.song_lists.proofs.Stretches.{IsWritten, KeptStand, slides_stand, list_stands}
 use Rattle.song_lists.proofs.Standing.{no_mark, fixed_at, order_at_label, pattern_at_label, begins_at, has_length}
 use Rattle.song_lists.proofs.Standing.{has_bytes, speed_side_at}
@@ -41,6 +42,8 @@ is_written layout packed (Lefts name) is = is
 is_written layout packed (Rights name) is = is
 is_written layout packed Periods is = is
 is_written layout packed (Instruments field) is = is
+is_written layout packed OneTimer is = is
+is_written layout packed OneWave is = is
 is_written layout packed OrderLows is = is
 is_written layout packed OrderHighs is = is
 is_written layout packed PatternLows is = is
@@ -132,6 +135,8 @@ list_beside packed (Lefts Filter) i is below = inr (omega arith)
 list_beside packed (Rights Filter) i is below = inr (omega arith)
 list_beside packed Periods i is below = inr (omega arith)
 list_beside packed (Instruments field) i is below = inr (omega arith)
+list_beside packed OneTimer i is below = inr (omega arith)
+list_beside packed OneWave i is below = inr (omega arith)
 list_beside packed OrderLows i is below = inr (omega arith)
 list_beside packed OrderHighs i is below = inr (omega arith)
 list_beside packed PatternLows i is below = inr (omega arith)
@@ -160,14 +165,14 @@ high_place_is false packed e = absurd (cc)
 low_address_is : (layout : Layout) (packed : PackedSong) (start : ℕ) → IsListLayout layout packed start →
     layout.holds NOTE_DEPENDENT ≡ true → layout.address SLIDES_LOW ≡ start + (2 + 2 * length packed.speed)
 low_address_is layout packed start laid e =
-    fixed_at layout (layout.holds NOTE_DEPENDENT) packed start 30 no_mark laid.laid (omega arith)
+    fixed_at layout (layout.holds NOTE_DEPENDENT) packed start 32 no_mark laid.laid (omega arith)
     ∙ ap (λ (n : ℕ). start + n) (low_place_is (layout.holds NOTE_DEPENDENT) packed e)
 
 high_address_is : (layout : Layout) (packed : PackedSong) (start : ℕ) → IsListLayout layout packed start →
     layout.holds NOTE_DEPENDENT ≡ true →
     layout.address SLIDES_HIGH ≡ start + (2 + 2 * length packed.speed + slide_rows packed)
 high_address_is layout packed start laid e =
-    fixed_at layout (layout.holds NOTE_DEPENDENT) packed start 31 no_mark laid.laid (omega arith)
+    fixed_at layout (layout.holds NOTE_DEPENDENT) packed start 33 no_mark laid.laid (omega arith)
     ∙ ap (λ (n : ℕ). start + n) (high_place_is (layout.holds NOTE_DEPENDENT) packed e)
 
 beside_slides : (layout : Layout) (packed : PackedSong) (start place n : ℕ) → IsListLayout layout packed start →
@@ -207,7 +212,19 @@ kept_stand : (dependent : Bool) (packed : PackedSong) (start : ℕ) → dependen
 kept_stand true packed start e = slides_stand packed start
 kept_stand false packed start e = absurd (cc)
 
--- ---- orderlists, patterns and slides
+-- ---- what stands alone for all instruments, orderlists, patterns and slides
+
+-- each of their labels names a byte of these, where it has one, and else one of them or their end
+pub shared_stand_inside : (layout : Layout) (packed : PackedSong) (start : ℕ) → IsListLayout layout packed start →
+    (layout.address ONE_TIMER ≤ start + lists_size (layout.holds NOTE_DEPENDENT) packed)
+    × (layout.address ONE_WAVE ≤ start + lists_size (layout.holds NOTE_DEPENDENT) packed)
+shared_stand_inside layout packed start laid =
+    let dependent = layout.holds NOTE_DEPENDENT in
+    let timer = fixed_at layout dependent packed start 30 no_mark laid.laid (omega arith) in
+    let wave = fixed_at layout dependent packed start 31 no_mark laid.laid (omega arith) in
+    let all = (lengths dependent packed start).wave in
+    let end = texts_end dependent packed in
+    (omega arith, omega arith)
 
 pub orders_stand_inside : (layout : Layout) (packed : PackedSong) (start number : ℕ) →
     IsListLayout layout packed start → number < 3 * length packed.subtunes →
@@ -271,7 +288,7 @@ next_bytes_are_next layout packed start laid = record {
   filter_lefts = a_byte_on _ _ _ (at 14 (omega arith)) (at 15 (omega arith));
 }
   where
-    at : (k : ℕ) → k < 32 → layout.address (get_or (list_marks (layout.holds NOTE_DEPENDENT) packed) k no_mark).label
+    at : (k : ℕ) → k < 34 → layout.address (get_or (list_marks (layout.holds NOTE_DEPENDENT) packed) k no_mark).label
         ≡ start + (get_or (list_marks (layout.holds NOTE_DEPENDENT) packed) k no_mark).place
     at k below = fixed_at layout (layout.holds NOTE_DEPENDENT) packed start k no_mark laid.laid below
 
@@ -324,12 +341,12 @@ slides_stand_in layout packed start at laid bytes = record {
       inside;
   low_is = λ e.
       let place = low_is_speed (layout.holds NOTE_DEPENDENT) packed e in
-      let one = label_at 30 (omega arith) in
+      let one = label_at 32 (omega arith) in
       let two = label_at 4 (omega arith) in
       omega arith;
   high_is = λ e.
       let place = high_is_speed (layout.holds NOTE_DEPENDENT) packed e in
-      let one = label_at 31 (omega arith) in
+      let one = label_at 33 (omega arith) in
       let two = label_at 5 (omega arith) in
       omega arith;
   periods = λ e.
@@ -339,7 +356,7 @@ slides_stand_in layout packed start at laid bytes = record {
       omega arith;
 }
   where
-    label_at : (k : ℕ) → k < 32 →
+    label_at : (k : ℕ) → k < 34 →
         layout.address (get_or (list_marks (layout.holds NOTE_DEPENDENT) packed) k no_mark).label
         ≡ start + (get_or (list_marks (layout.holds NOTE_DEPENDENT) packed) k no_mark).place
     label_at k below = fixed_at layout (layout.holds NOTE_DEPENDENT) packed start k no_mark laid.laid below

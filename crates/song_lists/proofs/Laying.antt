@@ -11,7 +11,7 @@ use Rattle.player_memory.specs.SongLists.{HasSongLists, list_label, slide_rows}
 use Rattle.song_lists.specs.DataLists.{data_bytes}
 use Rattle.song_lists.specs.ListLaws.{IsListLayout, IsInside, IsBesideSlides, IsListRoom, AreLaid}
 use Rattle.song_lists.proofs.Inside.{data_stands, lists_stand_inside, orders_stand_inside, patterns_stand_inside}
-use Rattle.song_lists.proofs.Inside.{slides_are_inside, next_bytes_are_next}
+use Rattle.song_lists.proofs.Inside.{shared_stand_inside, slides_are_inside, next_bytes_are_next}
 
 -- the labels have such addresses
 laid_in : (layout : Layout) (packed : PackedSong) (start : ℕ) → IsListRoom layout packed start →
@@ -93,11 +93,14 @@ pub lists_are_laid : (layout : Layout) (packed : PackedSong) (start : ℕ) → I
 lists_are_laid layout packed start room =
     let laid = laid_in layout packed start room in
     let least = room.from in
-    let most = room.to in record {
+    let most = room.to in
+    let shared = shared_stand_inside layout packed start laid in record {
       slides = slides_are layout packed start room;
       next = next_bytes_are_next layout packed start laid;
       lists = λ list number is has.
           let from = (lists_stand_inside layout packed start list number laid is has).0.from in omega arith;
+      timer = omega (arith, shared.0);
+      wave = omega (arith, shared.1);
       orders = λ number inside.
           let to = (orders_stand_inside layout packed start number laid inside).1 in omega arith;
       patterns = λ number inside.

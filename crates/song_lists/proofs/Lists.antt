@@ -6,17 +6,18 @@ use Rattle.std.specs.Prelude.{sum_by}
 use Rattle.std.specs.List.{concat, range_with_len}
 use Rattle.std.proofs.lemmas.List.{length-map, length-replicate, map-id}
 use Rattle.std.proofs.lemmas.List.FromFn.{length-range_with_len, sum_by-map-range_with_len_more}
+use Rattle.song_model.specs.LookUp.{instrument_at}
 use Rattle.play_model.specs.Freq.{freq}
+use Rattle.song_facts.specs.Facts.{timer_of}
 use Rattle.packed_form.specs.declared.packed_songs.PackedSong.{PackedSong}
-use Rattle.packed_form.specs.Sizes.{list_size, subtune_size, packed_song_size}
-use Rattle.packed_form.specs.Unpacked.{unpacked_instrument}
-use Rattle.player_memory.proofs.Laws.{unread_within}
+use Rattle.packed_form.specs.Sizes.{list_size, subtune_size}
+use Rattle.packed_form.specs.Unpacked.{unpacked_instrument, unpacked_song}
 use Rattle.player_memory.specs.Forms.{stored}
-use Rattle.player_memory.specs.SongLists.{is_read, unread, unread_size, bytes_in_front, gap_size}
+use Rattle.player_memory.specs.SongLists.{is_read, unread, unread_size, shared_size, bytes_in_front, gap_size}
 use Rattle.player_memory.specs.SongLists.{instrument_byte}
 use Rattle.song_lists.specs.DataLists.{frequency_lows, frequency_highs, lefts, rights, stored_rows, periods}
 use Rattle.song_lists.specs.DataLists.{kept_list, kept_rows, field_bytes, instrument_bytes, field_size, fields_before}
-use Rattle.song_lists.specs.DataLists.{all_orders, lows, highs}
+use Rattle.song_lists.specs.DataLists.{one_timer_bytes, one_wave_bytes, one_timer_size, all_orders, lows, highs}
 use Rattle.song_lists.specs.DataLists.{orders_place, patterns_place, frequencies_place, bytes_back}
 use Rattle.song_lists.specs.DataLists.{gap_bytes, frequency_lists}
 use Rattle.song_lists.specs.DataLists.{order_places, pattern_places, data_bytes}
@@ -35,6 +36,7 @@ fixed_lists dependent packed start =
     ∷ instrument_bytes packed 0 ∷ instrument_bytes packed 1 ∷ instrument_bytes packed 2
     ∷ instrument_bytes packed 3 ∷ instrument_bytes packed 4 ∷ instrument_bytes packed 5
     ∷ instrument_bytes packed 6 ∷ instrument_bytes packed 7 ∷ instrument_bytes packed 8
+    ∷ one_timer_bytes packed ∷ one_wave_bytes packed
     ∷ lows start 0 (order_places dependent packed) ∷ highs start 0 (order_places dependent packed)
     ∷ lows start 1 (pattern_places dependent packed) ∷ highs start 1 (pattern_places dependent packed) ∷ []
 
@@ -76,6 +78,8 @@ pub record Lengths (dependent : Bool) (packed : PackedSong) (start : ℕ) : Type
   pub seventh : length (instrument_bytes packed 6) ≡ field_size packed 6
   pub eighth : length (instrument_bytes packed 7) ≡ field_size packed 7
   pub ninth : length (instrument_bytes packed 8) ≡ field_size packed 8
+  pub timer : length (one_timer_bytes packed) ≡ one_timer_size packed
+  pub wave : one_timer_size packed + length (one_wave_bytes packed) ≡ shared_size packed
   pub order_lows : length (lows start 0 (order_places dependent packed)) ≡ 3 * length packed.subtunes
   pub order_highs : length (highs start 0 (order_places dependent packed)) ≡ 3 * length packed.subtunes
   pub pattern_lows : length (lows start 1 (pattern_places dependent packed)) ≡ length packed.patterns
@@ -94,6 +98,23 @@ field_count packed field = by_test (is_read packed field)
     by_test : (z : Bool) → length (if z then field_bytes packed field else [])
         ≡ if z then length packed.instruments else 0
     by_test true = length-map packed.instruments (λ i. instrument_byte field (unpacked_instrument i))
+    by_test false = refl
+
+-- and there is a byte for all instruments where no two differ in it
+timer_count : (packed : PackedSong) → length (one_timer_bytes packed) ≡ one_timer_size packed
+timer_count packed = by_test packed.facts.own_timer
+  where
+    by_test : (z : Bool) →
+        length (if z then [] else timer_of (instrument_at (unpacked_song packed) 1) ∷ []) ≡ if z then 0 else 1
+    by_test true = refl
+    by_test false = refl
+
+wave_count : (packed : PackedSong) → one_timer_size packed + length (one_wave_bytes packed) ≡ shared_size packed
+wave_count packed = ap (λ (n : ℕ). one_timer_size packed + n) (by_test packed.facts.own_wave)
+  where
+    by_test : (z : Bool) →
+        length (if z then [] else (instrument_at (unpacked_song packed) 1).first_wave ∷ []) ≡ if z then 0 else 1
+    by_test true = refl
     by_test false = refl
 
 pub order_places_count : (dependent : Bool) (packed : PackedSong) →
@@ -123,6 +144,8 @@ lengths dependent packed start = record {
   seventh = field_count packed 6;
   eighth = field_count packed 7;
   ninth = field_count packed 8;
+  timer = timer_count packed;
+  wave = wave_count packed;
   order_lows = length-map (order_places dependent packed) (λ place. (start + place - 0) % 256)
       ∙ order_places_count dependent packed;
   order_highs = length-map (order_places dependent packed) (λ place. (start + place - 0) / 256)
@@ -205,20 +228,20 @@ frequencies_begin dependent packed =
     ap (λ (n : ℕ). n + gap_size packed)
     (sizes_sum (length (concat (all_orders packed))) (length (concat packed.patterns))
     (length packed.subtunes) (length packed.patterns) (length packed.instruments) (fields_before packed 9)
-    (unread_size packed) (length packed.wave) (length packed.pulse) (length packed.filter) (length packed.speed)
-    (kept_rows dependent packed)
+    (unread_size packed) (shared_size packed) (length packed.wave) (length packed.pulse) (length packed.filter)
+    (length packed.speed) (kept_rows dependent packed)
     (sum_by subtune_size packed.subtunes)
     (sum_by list_size packed.patterns) (orders_size packed.subtunes) (texts_size packed.patterns)
     (field_sums packed).all)
   where
-    sizes_sum : (orders patterns subtunes texts instruments fields unread wave pulse filter speed kept order_sum
+    sizes_sum : (orders patterns subtunes texts instruments fields unread shared wave pulse filter speed kept order_sum
         text_sum : ℕ) → orders + 6 * subtunes ≡ order_sum → patterns + 2 * texts ≡ text_sum →
         fields + unread ≡ 9 * instruments →
-        1 + 2 * speed + 3 * kept + 2 * wave + 2 * pulse + 2 * filter + fields + 1 + 6 * subtunes + 2 * texts
+        1 + 2 * speed + 3 * kept + 2 * wave + 2 * pulse + 2 * filter + fields + 1 + shared + 6 * subtunes + 2 * texts
         + orders + patterns
-        ≡ 2 + (order_sum + text_sum + 9 * instruments + 2 * wave + 2 * pulse + 2 * filter + 2 * speed) - unread
+        ≡ 2 + (order_sum + text_sum + 9 * instruments + 2 * wave + 2 * pulse + 2 * filter + 2 * speed + shared - unread)
         + 3 * kept
-    sizes_sum _ _ _ _ _ _ _ _ _ _ _ _ _ _ d e f = omega arith
+    sizes_sum _ _ _ _ _ _ _ _ _ _ _ _ _ _ _ d e f = omega arith
 
 pub gap_count : (packed : PackedSong) → length (gap_bytes packed) ≡ gap_size packed
 gap_count packed = length-replicate {A = ℕ} (gap_size packed) 0
@@ -289,10 +312,7 @@ pub record FrequencyLabels (dependent : Bool) (packed : PackedSong) : Type 0 whe
 
 -- the two zeros are always in front
 some_in_front : (packed : PackedSong) → 1 ≤ bytes_in_front packed
-some_in_front packed = some (packed_song_size packed) (unread_size packed) (unread_within packed)
-  where
-    some : (size unread : ℕ) → unread ≤ size → 1 ≤ 2 + size - unread
-    some size unread within = omega (arith, within)
+some_in_front packed = omega arith
 
 pub frequency_labels : (dependent : Bool) (packed : PackedSong) → FrequencyLabels dependent packed
 frequency_labels dependent packed =

@@ -12,6 +12,7 @@ use Rattle.song_model.specs.declared.songs.Song.{Song}
 use Rattle.song_model.specs.declared.tables.TableName.{TableName}
 use Rattle.song_model.specs.LookUp.{table_of, instrument_at, table_row, zero_instrument, zero_table_row}
 use Rattle.play_model.specs.Freq.{freq}
+use Rattle.song_facts.specs.Facts.{timer_of}
 use Rattle.packed_form.specs.declared.packed_songs.PackedInstrument.{PackedInstrument}
 use Rattle.packed_form.specs.declared.packed_songs.PackedSong.{PackedSong}
 use Rattle.packed_form.specs.Unpacked.{unpacked_instrument, unpacked_song}
@@ -19,14 +20,16 @@ use Rattle.scopes.specs.Desk.{Layout}
 use Rattle.player_memory.specs.declared.labels.TheConstants.{ORDERS, PATTERNS}
 use Rattle.player_memory.specs.Forms.{stored}
 use Rattle.player_memory.specs.SongLists.{SongList, FrequencyLows, FrequencyHighs, Lefts, Rights, Periods, Instruments}
-use Rattle.player_memory.specs.SongLists.{OrderLows, OrderHighs, PatternLows, PatternHighs, OrderBytes, PatternBytes}
+use Rattle.player_memory.specs.SongLists.{OneTimer, OneWave, OrderLows, OrderHighs, PatternLows, PatternHighs}
+use Rattle.player_memory.specs.SongLists.{OrderBytes, PatternBytes}
 use Rattle.player_memory.specs.SongLists.{is_read, list_label, list_length, list_byte, first_number, instrument_byte}
 use Rattle.player_memory.specs.SongLists.{order_bytes, pattern_bytes}
 use Rattle.player_memory.proofs.Laws.{read_below}
 use Rattle.song_lists.specs.declared.marks.Mark.{Mark}
 use Rattle.song_lists.specs.Marks.{mark_at}
 use Rattle.song_lists.specs.DataLists.{frequency_lows, frequency_highs, lefts, rights, stored_rows}
-use Rattle.song_lists.specs.DataLists.{field_bytes, instrument_bytes, order_places, pattern_places, patterns_place}
+use Rattle.song_lists.specs.DataLists.{field_bytes, instrument_bytes, one_timer_bytes, one_wave_bytes}
+use Rattle.song_lists.specs.DataLists.{order_places, pattern_places, patterns_place}
 use Rattle.song_lists.specs.DataLists.{label_place, marks_from, list_marks, data_marks, IsDataLayout}
 use Rattle.song_lists.proofs.Pieces.{places_count}
 use Rattle.song_lists.proofs.Lists.{lengths, field_count, lows_count, highs_count, order_places_count}
@@ -59,7 +62,7 @@ marks_have label places k inside = (
 
 pub fixed_at : (layout : Layout) (dependent : Bool) (packed : PackedSong) (start k : ℕ) (d : Mark) →
     IsDataLayout layout dependent packed start →
-    k < 32 →
+    k < 34 →
     layout.address (get_or (list_marks dependent packed) k d).label
     ≡ start + (get_or (list_marks dependent packed) k d).place
 fixed_at layout dependent packed start k d laid inside =
@@ -165,6 +168,10 @@ begins_at layout dependent packed start PatternLows laid is =
     fixed_at layout dependent packed start 28 no_mark laid (omega arith)
 begins_at layout dependent packed start PatternHighs laid is =
     fixed_at layout dependent packed start 29 no_mark laid (omega arith)
+begins_at layout dependent packed start OneTimer laid is =
+    fixed_at layout dependent packed start 30 no_mark laid (omega arith)
+begins_at layout dependent packed start OneWave laid is =
+    fixed_at layout dependent packed start 31 no_mark laid (omega arith)
 begins_at layout dependent packed start (Instruments field) laid is =
     instruments_begin layout dependent packed start field laid (read_below packed field is)
 begins_at layout dependent packed start (OrderBytes subtune channel) laid is =
@@ -190,6 +197,10 @@ has_length dependent packed start Periods is =
     let count = length-map packed.speed (λ (row : TableRow). row.left % 128) in omega arith
 has_length dependent packed start (Instruments field) is =
     field_count packed field ∙ ap (λ (z : Bool). if z then length packed.instruments else 0) is
+has_length dependent packed start OneTimer is =
+    ap (λ (z : Bool). length (if z then [] else timer_of (instrument_at (unpacked_song packed) 1) ∷ [])) is
+has_length dependent packed start OneWave is =
+    ap (λ (z : Bool). length (if z then [] else (instrument_at (unpacked_song packed) 1).first_wave ∷ [])) is
 has_length dependent packed start OrderLows is = (lengths dependent packed start).order_lows
 has_length dependent packed start OrderHighs is = (lengths dependent packed start).order_highs
 has_length dependent packed start PatternLows is = (lengths dependent packed start).pattern_lows
@@ -233,10 +244,10 @@ zero_row_is : (song : Song) → table_row song Speed (0 + 0) ≡ zero_table_row
 unfolding table_row
 zero_row_is song = refl
 
-no_instrument : PackedInstrument
+pub no_instrument : PackedInstrument
 no_instrument = record { bytes = replicate 9 0 }
 
-stored_instrument : (packed : PackedSong) (i : ℕ) → i < length packed.instruments →
+pub stored_instrument : (packed : PackedSong) (i : ℕ) → i < length packed.instruments →
     instrument_at (unpacked_song packed) (i + 1) ≡ unpacked_instrument (get_or packed.instruments i no_instrument)
 unfolding instrument_at
 stored_instrument packed i inside =
@@ -333,6 +344,16 @@ has_bytes layout dependent packed start (Instruments field) i number laid is ins
     let same : i + 1 ≡ number = omega arith in
     instrument_byte_at packed field i is inside
     ∙ ap (λ (n : ℕ). instrument_byte field (instrument_at (unpacked_song packed) n)) same
+has_bytes layout dependent packed start OneTimer i number laid is inside at =
+    let first : i ≡ 0 = omega arith in
+    let timer : ℕ = timer_of (instrument_at (unpacked_song packed) 1) in
+    ap (λ (n : ℕ). get_or (one_timer_bytes packed) n 0) first
+    ∙ ap (λ (z : Bool). get_or (if z then [] else timer ∷ []) 0 0) is
+has_bytes layout dependent packed start OneWave i number laid is inside at =
+    let first : i ≡ 0 = omega arith in
+    let wave : ℕ = (instrument_at (unpacked_song packed) 1).first_wave in
+    ap (λ (n : ℕ). get_or (one_wave_bytes packed) n 0) first
+    ∙ ap (λ (z : Bool). get_or (if z then [] else wave ∷ []) 0 0) is
 has_bytes layout dependent packed start OrderLows i number laid is inside at =
     let whole : layout.address (ORDERS + number) - 0 ≡ layout.address (ORDERS + number) = omega arith in
     low_address_at start 0 (order_places dependent packed) i number (layout.address (ORDERS + number))

@@ -8,12 +8,14 @@ use Rattle.song_model.specs.declared.tables.TableName.TheVariants.{Wave, Pulse, 
 use Rattle.packed_form.specs.declared.packed_songs.PackedSubtune.{PackedSubtune}
 use Rattle.packed_form.specs.declared.packed_songs.PackedSong.{PackedSong}
 use Rattle.player_memory.specs.SongLists.{SongList, FrequencyLows, FrequencyHighs, Lefts, Rights, Periods, Instruments}
-use Rattle.player_memory.specs.SongLists.{OrderLows, OrderHighs, PatternLows, PatternHighs, OrderBytes, PatternBytes}
+use Rattle.player_memory.specs.SongLists.{OneTimer, OneWave, OrderLows, OrderHighs, PatternLows, PatternHighs}
+use Rattle.player_memory.specs.SongLists.{OrderBytes, PatternBytes}
 use Rattle.player_memory.specs.SongLists.{first_number, order_bytes, pattern_bytes, channel_bytes, no_subtune}
 use Rattle.player_memory.specs.SongLists.{is_read, gap_size, slide_rows}
 use Rattle.player_memory.proofs.Laws.{read_below}
 use Rattle.song_lists.specs.DataLists.{frequency_lows, frequency_highs, lefts, rights, stored_rows, periods}
-use Rattle.song_lists.specs.DataLists.{instrument_bytes, all_orders, orders_of, lows, highs, periods_place}
+use Rattle.song_lists.specs.DataLists.{instrument_bytes, one_timer_bytes, one_wave_bytes, all_orders, orders_of}
+use Rattle.song_lists.specs.DataLists.{lows, highs, periods_place}
 use Rattle.song_lists.specs.DataLists.{orders_place, patterns_place, order_places, pattern_places, data_bytes}
 use Rattle.song_lists.specs.DataLists.{frequencies_place, bytes_back, gap_bytes, frequency_lists, label_place}
 use Rattle.song_lists.proofs.Pieces.{StandsIn, size_before, piece_stands, stands_before, stands_after, place_at}
@@ -37,6 +39,8 @@ written dependent packed start (Rights Pulse) = rights packed.pulse
 written dependent packed start (Rights Filter) = rights packed.filter
 written dependent packed start Periods = 0 ∷ periods packed.speed
 written dependent packed start (Instruments field) = instrument_bytes packed field
+written dependent packed start OneTimer = one_timer_bytes packed
+written dependent packed start OneWave = one_wave_bytes packed
 written dependent packed start OrderLows = lows start 0 (order_places dependent packed)
 written dependent packed start OrderHighs = highs start 0 (order_places dependent packed)
 written dependent packed start PatternLows = lows start 1 (pattern_places dependent packed)
@@ -48,6 +52,8 @@ written dependent packed start (PatternBytes pattern) = pattern_bytes packed pat
 abbrev pub IsWritten : Bool → PackedSong → SongList → Type 0
 IsWritten dependent packed Periods = dependent ≡ true
 IsWritten dependent packed (Instruments field) = is_read packed field ≡ true
+IsWritten dependent packed OneTimer = packed.facts.own_timer ≡ false
+IsWritten dependent packed OneWave = packed.facts.own_wave ≡ false
 IsWritten dependent packed (OrderBytes subtune channel) = (subtune < length packed.subtunes) × (channel < 3)
 IsWritten dependent packed (PatternBytes pattern) = pattern < length packed.patterns
 IsWritten dependent packed list = Unit {0}
@@ -307,22 +313,30 @@ list_stands dependent packed start (Rights Speed) is =
 list_stands dependent packed start Periods is = periods_stand dependent packed start is
 list_stands dependent packed start (Instruments field) is =
     instruments_stand dependent packed start field (read_below packed field is)
-list_stands dependent packed start OrderLows is =
+list_stands dependent packed start OneTimer is =
     let each = lengths dependent packed start in
     let sums = field_sums packed in
     fixed_stands dependent packed start 20 _ (omega arith) (omega arith)
-list_stands dependent packed start OrderHighs is =
+list_stands dependent packed start OneWave is =
     let each = lengths dependent packed start in
     let sums = field_sums packed in
     fixed_stands dependent packed start 21 _ (omega arith) (omega arith)
-list_stands dependent packed start PatternLows is =
+list_stands dependent packed start OrderLows is =
     let each = lengths dependent packed start in
     let sums = field_sums packed in
     fixed_stands dependent packed start 22 _ (omega arith) (omega arith)
-list_stands dependent packed start PatternHighs is =
+list_stands dependent packed start OrderHighs is =
     let each = lengths dependent packed start in
     let sums = field_sums packed in
     fixed_stands dependent packed start 23 _ (omega arith) (omega arith)
+list_stands dependent packed start PatternLows is =
+    let each = lengths dependent packed start in
+    let sums = field_sums packed in
+    fixed_stands dependent packed start 24 _ (omega arith) (omega arith)
+list_stands dependent packed start PatternHighs is =
+    let each = lengths dependent packed start in
+    let sums = field_sums packed in
+    fixed_stands dependent packed start 25 _ (omega arith) (omega arith)
 list_stands dependent packed start (OrderBytes subtune channel) is =
     let place : label_place dependent packed (OrderBytes subtune channel)
     ≡ label_place dependent packed (OrderBytes subtune channel) + 0 = omega arith in

@@ -8,10 +8,12 @@ use Rattle.std.specs.List.{concat, flat_map, range_with_len}
 use Rattle.std.specs.List.Sorted.{IsNonDecreasingBy}
 use Rattle.song_model.specs.declared.tables.TableRow.{TableRow}
 use Rattle.song_model.specs.declared.tables.TableName.TheVariants.{Wave, Pulse, Filter, Speed}
+use Rattle.song_model.specs.LookUp.{instrument_at}
 use Rattle.play_model.specs.Freq.{freq}
+use Rattle.song_facts.specs.Facts.{timer_of}
 use Rattle.packed_form.specs.declared.packed_songs.PackedSubtune.{PackedSubtune}
 use Rattle.packed_form.specs.declared.packed_songs.PackedSong.{PackedSong}
-use Rattle.packed_form.specs.Unpacked.{unpacked_instrument}
+use Rattle.packed_form.specs.Unpacked.{unpacked_instrument, unpacked_song}
 use Rattle.asm6502.specs.declared.lines.Line.{Line}
 use Rattle.scopes.specs.Desk.{Layout}
 use Rattle.player_memory.specs.declared.labels.TheConstants.{NEXT_FREQUENCY_LOWS, NEXT_FREQUENCY_HIGHS}
@@ -20,8 +22,9 @@ use Rattle.player_memory.specs.declared.labels.TheConstants.{NEXT_FILTER_LEFTS, 
 use Rattle.player_memory.specs.declared.labels.TheConstants.{ORDERS, PATTERNS}
 use Rattle.player_memory.specs.Forms.{stored}
 use Rattle.player_memory.specs.SongLists.{SongList, FrequencyLows, FrequencyHighs, Lefts, Rights, Periods, Instruments}
-use Rattle.player_memory.specs.SongLists.{OrderLows, OrderHighs, PatternLows, PatternHighs, OrderBytes, PatternBytes}
-use Rattle.player_memory.specs.SongLists.{is_read, gap_size, slide_rows, instrument_byte, list_label}
+use Rattle.player_memory.specs.SongLists.{OneTimer, OneWave, OrderLows, OrderHighs, PatternLows, PatternHighs}
+use Rattle.player_memory.specs.SongLists.{OrderBytes, PatternBytes}
+use Rattle.player_memory.specs.SongLists.{is_read, shared_size, gap_size, slide_rows, instrument_byte, list_label}
 use Rattle.song_lists.specs.declared.marks.Mark.{Mark}
 use Rattle.song_lists.specs.Marks.{mark_at, marked}
 
@@ -77,6 +80,20 @@ field_size packed field = if is_read packed field then length packed.instruments
 unfoldable pub fields_before : PackedSong → ℕ → ℕ
 fields_before packed field = sum_by (field_size packed) (range_with_len 0 field)
 
+-- the bytes that stand alone for all instruments, where no two differ in them: the gateoff timer of the first one, and
+-- its first waveform
+abbrev pub one_timer_bytes : PackedSong → List ℕ
+one_timer_bytes packed =
+    if packed.facts.own_timer then [] else timer_of (instrument_at (unpacked_song packed) 1) ∷ []
+
+abbrev pub one_wave_bytes : PackedSong → List ℕ
+one_wave_bytes packed =
+    if packed.facts.own_wave then [] else (instrument_at (unpacked_song packed) 1).first_wave ∷ []
+
+-- how many the first of them are
+abbrev pub one_timer_size : PackedSong → ℕ
+one_timer_size packed = if packed.facts.own_timer then 0 else 1
+
 -- the orderlists, three of each subtune
 abbrev pub orders_of : PackedSubtune → List (List ℕ)
 orders_of subtune = subtune.one ∷ subtune.two ∷ subtune.three ∷ []
@@ -128,9 +145,16 @@ filter_place dependent packed = pulse_place dependent packed + 2 * length packed
 abbrev pub instruments_place : Bool → PackedSong → ℕ
 instruments_place dependent packed = filter_place dependent packed + 2 * length packed.filter
 
--- the addresses of the orderlists and of the patterns stand behind these, and then they themselves
+-- what stands alone for all instruments is behind these; its labels name its bytes, or where they would be
+abbrev pub one_timer_place : Bool → PackedSong → ℕ
+one_timer_place dependent packed = instruments_place dependent packed + fields_before packed 9 + 1
+
+abbrev pub one_wave_place : Bool → PackedSong → ℕ
+one_wave_place dependent packed = one_timer_place dependent packed + one_timer_size packed
+
+-- the addresses of the orderlists and of the patterns stand behind that, and then they themselves
 abbrev pub addresses_place : Bool → PackedSong → ℕ
-addresses_place dependent packed = instruments_place dependent packed + fields_before packed 9 + 1
+addresses_place dependent packed = one_timer_place dependent packed + shared_size packed
 
 abbrev pub orders_place : Bool → PackedSong → ℕ
 orders_place dependent packed =
@@ -185,6 +209,9 @@ table_lists packed =
 abbrev pub instrument_lists : PackedSong → List (List ℕ)
 instrument_lists packed = map (instrument_bytes packed) (range_with_len 0 9)
 
+abbrev pub shared_lists : PackedSong → List (List ℕ)
+shared_lists packed = one_timer_bytes packed ∷ one_wave_bytes packed ∷ []
+
 -- the addresses of the orderlists, and the places before the patterns
 abbrev pub address_lists : Bool → PackedSong → ℕ → List (List ℕ)
 address_lists dependent packed start =
@@ -197,7 +224,8 @@ frequency_lists packed = gap_bytes packed ∷ frequency_lows packed ∷ frequenc
 abbrev pub data_bytes : Bool → PackedSong → ℕ → List ℕ
 data_bytes dependent packed start = concat
     (speed_lists packed ++ (kept_lists dependent packed ++ (table_lists packed ++ (instrument_lists packed
-    ++ (address_lists dependent packed start ++ (all_orders packed ++ (packed.patterns ++ frequency_lists packed)))))))
+    ++ (shared_lists packed ++ (address_lists dependent packed start ++ (all_orders packed
+    ++ (packed.patterns ++ frequency_lists packed))))))))
 
 -- ---- the labels
 
@@ -217,6 +245,8 @@ label_place dependent packed (Lefts Filter) = filter_place dependent packed
 label_place dependent packed (Rights Filter) = filter_place dependent packed + length packed.filter
 label_place dependent packed (Instruments field) =
     instruments_place dependent packed + fields_before packed field
+label_place dependent packed OneTimer = one_timer_place dependent packed
+label_place dependent packed OneWave = one_wave_place dependent packed
 label_place dependent packed OrderLows = addresses_place dependent packed
 label_place dependent packed OrderHighs = addresses_place dependent packed + 3 * length packed.subtunes
 label_place dependent packed PatternLows = addresses_place dependent packed + 6 * length packed.subtunes
@@ -273,6 +303,9 @@ address_marks dependent packed =
     own_mark dependent packed OrderLows ∷ own_mark dependent packed OrderHighs
     ∷ own_mark dependent packed PatternLows ∷ own_mark dependent packed PatternHighs ∷ []
 
+abbrev pub shared_marks : Bool → PackedSong → List Mark
+shared_marks dependent packed = own_mark dependent packed OneTimer ∷ own_mark dependent packed OneWave ∷ []
+
 abbrev pub slide_marks : Bool → PackedSong → List Mark
 slide_marks dependent packed =
     mark_at SLIDES_LOW (slides_low_place dependent packed)
@@ -282,7 +315,7 @@ abbrev pub list_marks : Bool → PackedSong → List Mark
 list_marks dependent packed =
     frequency_marks dependent packed ++ (speed_marks dependent packed ++ (wave_marks dependent packed
     ++ (pulse_marks dependent packed ++ (filter_marks dependent packed ++ (instrument_marks dependent packed
-    ++ (address_marks dependent packed ++ slide_marks dependent packed))))))
+    ++ (address_marks dependent packed ++ (shared_marks dependent packed ++ slide_marks dependent packed)))))))
 
 -- and with those of its orderlists and patterns
 abbrev pub data_marks : Bool → PackedSong → List Mark

@@ -11,7 +11,7 @@ use Rattle.asm6502.specs.Standing.{BytesStand}
 use Rattle.asm6502.specs.Stretches.{NamesNoLabelTwice, IsNamedAlways, AtHome}
 use Rattle.scopes.specs.Desk.{Layout}
 use Rattle.player_memory.specs.declared.conditions.TheConstants.{NOTE_DEPENDENT}
-use Rattle.player_memory.specs.declared.labels.TheConstants.{FREQUENCY_LOWS, PATTERNS_HIGH, ORDERS, PATTERNS}
+use Rattle.player_memory.specs.declared.labels.TheConstants.{FREQUENCY_LOWS, ONE_TIMER, ONE_WAVE, ORDERS, PATTERNS}
 use Rattle.player_memory.specs.declared.labels.TheConstants.{SLIDES_LOW, SLIDES_HIGH, VARIABLES}
 use Rattle.player_memory.specs.Rooms.{AreSlides}
 use Rattle.player_memory.specs.Playing.{place_in}
@@ -29,8 +29,8 @@ pub record KeepsCounts (packed : PackedSong) : Type 0 where
 
 -- ---- sizes
 
--- two zeros and what is read of the packed song, three lists of slides and periods where they are kept, and behind a
--- gap two bytes of each frequency
+-- two zeros, what is read of the packed song and what stands alone for all its instruments, three lists of slides and
+-- periods where they are kept, and behind a gap two bytes of each frequency
 abbrev pub lists_size : Bool → PackedSong → ℕ
 lists_size dependent packed =
     bytes_in_front packed + 3 * kept_rows dependent packed + gap_size packed + 2 * packed.numbers.count
@@ -89,7 +89,7 @@ NoLabelIsNamedTwice =
 -- a label of a list that each song has
 abbrev pub IsListLabel : ℕ → Type 0
 IsListLabel label =
-    ((FREQUENCY_LOWS ≤ label) × (label ≤ PATTERNS_HIGH)) ⊎ ((SLIDES_LOW ≤ label) × (label ≤ SLIDES_HIGH))
+    ((FREQUENCY_LOWS ≤ label) × (label ≤ ONE_WAVE)) ⊎ ((SLIDES_LOW ≤ label) × (label ≤ SLIDES_HIGH))
 
 -- or of an orderlist or a pattern
 abbrev pub IsDataLabel : ℕ → Type 0
@@ -207,12 +207,15 @@ SongListsStand =
     (layout : Layout) (packed : PackedSong) (start : ℕ) (at : ℕ → ℕ) → IsListRoom layout packed start →
     BytesStand at start (data_bytes (layout.holds NOTE_DEPENDENT) packed start) → HasSongLists layout packed at
 
--- and the layout is what it asks for, in all that the lists decide
+-- and the layout is what it asks for, in all that the lists decide; what stands alone for all instruments has its
+-- labels within memory, where it isn't there, too
 pub record AreLaid (layout : Layout) (packed : PackedSong) : Type 0 where
   pub slides : layout.holds NOTE_DEPENDENT ≡ true → AreSlides layout (slide_rows packed)
   pub next : AreNext layout
   pub lists : (list : SongList) (number : ℕ) → IsSongList layout packed list → HasNumber packed list number →
       0x0800 ≤ place_in layout (list_label list) number
+  pub timer : layout.address ONE_TIMER < MEMORY_SIZE
+  pub wave : layout.address ONE_WAVE < MEMORY_SIZE
   pub orders : (number : ℕ) → number < 3 * length packed.subtunes → layout.address (ORDERS + number) < MEMORY_SIZE
   pub patterns : (number : ℕ) → number < length packed.patterns → PatternStands layout packed number
 

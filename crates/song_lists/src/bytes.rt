@@ -2,19 +2,21 @@
 
 ghost use Rattle.std.specs.Prelude.{◌≡◌, ◌<◌, ◌≤◌, ◌+◌, ◌∷◌, ◌++◌, map, true, All, IfOk, OnOk};
 ghost use Rattle.std.specs.List.{concat, flat_map};
-ghost use Rattle.packed_form.specs.Unpacked.{unpacked_instrument};
+ghost use Rattle.song_model.specs.LookUp.{instrument_at};
+ghost use Rattle.packed_form.specs.Unpacked.{unpacked_instrument, unpacked_song};
 ghost use Rattle.player_memory.specs.Forms.{stored_left, stored_right};
 ghost use Rattle.player_memory.specs.SongLists.{instrument_byte};
 ghost use Rattle.song_lists.specs.DataLists.{gap_bytes, frequency_lows, frequency_highs, lefts, rights, stored_rows};
 ghost use Rattle.song_lists.specs.DataLists.{periods};
 ghost use Rattle.song_lists.specs.DataLists.{kept_list, lows, highs, orders_of, instrument_bytes};
-ghost use Rattle.song_lists.specs.DataLists.{speed_lists, kept_lists, table_lists, instrument_lists};
+ghost use Rattle.song_lists.specs.DataLists.{one_timer_bytes, one_wave_bytes};
+ghost use Rattle.song_lists.specs.DataLists.{speed_lists, kept_lists, table_lists, instrument_lists, shared_lists};
 ghost use Rattle.song_lists.specs.DataLists.{order_places, pattern_places, frequency_lists, data_bytes};
 
 use base::{ByteList, NoMemory};
 use packed_form::{PackedInstrument, PackedPattern, PackedSong, PackedSubtune};
 use play_model::freq;
-use player_memory::{DELAY_BYTE, gap_size, is_read};
+use player_memory::{DELAY_BYTE, FIRST_WAVE_BYTE, TIMER_BYTE, gap_size, is_read};
 use song_model::TableRow;
 use std::alloc::Global;
 
@@ -223,6 +225,46 @@ fn push_instrument_lists(bytes: &mut ByteList, packed: &PackedSong) -> Result<()
     Ok(())
 }
 
+/// The first instrument, or one of zeros where there is none.
+fn first_instrument(packed: &PackedSong) -> PackedInstrument
+    ensures { unpacked_instrument result ≡ instrument_at (unpacked_song packed.now) 1 }
+{
+    match packed.instruments.as_slice().first() {
+        Some(instrument) => *instrument,
+        None => PackedInstrument { bytes: [0; 9] },
+    }
+}
+
+/// The gateoff timer that stands for all instruments, where no two that the song uses differ in it.
+fn push_one_timer(bytes: &mut ByteList, packed: &PackedSong) -> Result<(), NoMemory>
+    ensures { OnOk result (bytes.new ≡ bytes.old ++ one_timer_bytes packed.now) }
+{
+    if packed.facts.own_timer {
+        Ok(())
+    } else {
+        bytes.push(first_instrument(packed).bytes[TIMER_BYTE] % 64)
+    }
+}
+
+/// The first waveform that stands for all of them, where no two differ in that.
+fn push_one_wave(bytes: &mut ByteList, packed: &PackedSong) -> Result<(), NoMemory>
+    ensures { OnOk result (bytes.new ≡ bytes.old ++ one_wave_bytes packed.now) }
+{
+    if packed.facts.own_wave {
+        Ok(())
+    } else {
+        bytes.push(first_instrument(packed).bytes[FIRST_WAVE_BYTE])
+    }
+}
+
+/// What stands alone for all instruments.
+fn push_shared_lists(bytes: &mut ByteList, packed: &PackedSong) -> Result<(), NoMemory>
+    ensures { OnOk result (bytes.new ≡ bytes.old ++ concat (shared_lists packed.now)) }
+{
+    push_one_timer(bytes, packed)?;
+    push_one_wave(bytes, packed)
+}
+
 /// The low bytes of the addresses of places, each less so many bytes.
 fn push_lows(bytes: &mut ByteList, start: u16, back: u16, places: &[u16]) -> Result<(), NoMemory>
     requires from { All (λ place. back ≤ place) places.now }
@@ -320,6 +362,7 @@ pub(crate) fn data_bytes(
     push_kept_lists(&mut bytes, packed, dependent)?;
     push_table_lists(&mut bytes, packed)?;
     push_instrument_lists(&mut bytes, packed)?;
+    push_shared_lists(&mut bytes, packed)?;
     push_address_lists(&mut bytes, start, places.0, places.1)?;
     push_orders(&mut bytes, packed.subtunes.as_slice())?;
     push_patterns(&mut bytes, packed.patterns.as_slice())?;

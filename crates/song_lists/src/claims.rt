@@ -9,9 +9,9 @@ ghost use Rattle.song_lists.specs.WorkedLists.{FrequenciesAreWorked, FewFieldsAr
 ghost use Rattle.song_lists.specs.WorkedLists.{OtherListingsAre};
 ghost use Rattle.song_lists.specs.WorkedLayouts.{SmallLayoutsAre, OtherLayoutsAre, SmallPlacesAre, LabelsAreWorked};
 
-/// There are two zeros, as many bytes as are read of the packed song, those of three lists where calculated speeds are
-/// kept, the zeros of the gap, and two of each frequency of a number that the song asks for. The lines take these, each
-/// byte as it is.
+/// There are two zeros, as many bytes as are read of the packed song or stand alone for all its instruments, those of
+/// three lists where calculated speeds are kept, the zeros of the gap, and two of each frequency of a number that the
+/// song asks for. The lines take these, each byte as it is.
 pub fn data_takes_size()
     ensures bytes { DataTakesSize }
     ensures lines { LinesTakeSize }
@@ -53,8 +53,8 @@ pub fn lists_stand_inside()
     ensures next { NextBytesAreNext }
 {}
 
-/// The frequencies of some notes, and the lists of a small song, without calculated speeds from `$1FCD` on and with
-/// them from `$1FC7` on, worked by hand; its lists where some fields of its instruments aren't read; the addresses of
+/// The frequencies of some notes, and the lists of a small song, without calculated speeds from `$1FCC` on and with
+/// them from `$1FC6` on, worked by hand; its lists where some fields of its instruments aren't read; the addresses of
 /// its orderlists, and such as aren't theirs; and listings that aren't of it.
 pub fn worked_lists()
     ensures frequencies { FrequenciesAreWorked }

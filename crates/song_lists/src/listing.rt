@@ -15,8 +15,9 @@ use std::alloc::Global;
 
 /// The lists of a packed song and its frequencies as lines of a listing, with their labels, and with the lists of
 /// calculated speeds where these are kept (`dependent`). The first byte is to stand at `start`, and all of them below
-/// `$D000`. The listing takes two bytes, those that are read of the packed song, where calculated speeds are kept three
-/// for each row of the speed table and row 0, those of the gap, and two for each number that the song asks for.
+/// `$D000`. The listing takes two bytes, those that are read of the packed song or stand alone for all its instruments,
+/// where calculated speeds are kept three for each row of the speed table and row 0, those of the gap, and two for each
+/// number that the song asks for.
 ///
 /// # Errors
 ///

@@ -5,14 +5,15 @@ ghost use Rattle.std.specs.List.{concat, flat_map};
 ghost use Rattle.player_memory.specs.SongLists.{FrequencyLows, FrequencyHighs};
 ghost use Rattle.song_lists.specs.DataLists.{kept_rows, speed_lefts_place, slides_low_place, slides_high_place};
 ghost use Rattle.song_lists.specs.DataLists.{periods_place, wave_place, pulse_place, filter_place, instruments_place};
-ghost use Rattle.song_lists.specs.DataLists.{field_size, addresses_place, orders_place, orders_of, places_from};
+ghost use Rattle.song_lists.specs.DataLists.{field_size, one_timer_place, one_wave_place, addresses_place};
+ghost use Rattle.song_lists.specs.DataLists.{orders_place, orders_of, places_from};
 ghost use Rattle.song_lists.specs.DataLists.{order_places};
 ghost use Rattle.song_lists.specs.DataLists.{pattern_places, frequencies_place, bytes_back, label_place};
 ghost use Rattle.song_lists.specs.ListLaws.{lists_size};
 
 use base::{Items, NoMemory};
 use packed_form::{PackedOrder, PackedPattern, PackedSong, PackedSubtune};
-use player_memory::{gap_size, is_read, unread_size};
+use player_memory::{bytes_read, gap_size, is_read, shared_size, unread_size};
 use song_model::Table;
 use std::alloc::Global;
 
@@ -149,19 +150,34 @@ pub(crate) fn field_size(packed: &PackedSong, field: u16) -> u16
     }
 }
 
-/// Where the addresses begin.
-pub(crate) fn addresses_place(packed: &PackedSong, dependent: bool) -> u16
-    ensures place { result ≡ addresses_place dependent packed.now }
+/// Where that of the gateoff timer for all instruments is, behind their fields.
+pub(crate) fn one_timer_place(packed: &PackedSong, dependent: bool) -> u16
+    ensures place { result ≡ one_timer_place dependent packed.now }
     ensures most { result ≤ 3377 }
 {
     let fields = 9 * instruments(packed) - unread_size(packed) as u16;
     instruments_place(packed, dependent) + fields + 1
 }
 
+/// Where that of their first waveform is.
+pub(crate) fn one_wave_place(packed: &PackedSong, dependent: bool) -> u16
+    ensures { result ≡ one_wave_place dependent packed.now }
+{
+    one_timer_place(packed, dependent) + u16::from(!packed.facts.own_timer)
+}
+
+/// Where the addresses begin.
+pub(crate) fn addresses_place(packed: &PackedSong, dependent: bool) -> u16
+    ensures place { result ≡ addresses_place dependent packed.now }
+    ensures most { result ≤ 3379 }
+{
+    one_timer_place(packed, dependent) + shared_size(packed) as u16
+}
+
 /// Where the orderlists begin.
 fn orders_place(packed: &PackedSong, dependent: bool) -> u16
     ensures place { result ≡ orders_place dependent packed.now }
-    ensures most { result ≤ 3985 }
+    ensures most { result ≤ 3987 }
 {
     addresses_place(packed, dependent) + 6 * subtunes(packed) + 2 * patterns(packed)
 }
@@ -171,8 +187,7 @@ fn frequencies_place(packed: &PackedSong, dependent: bool) -> u16
     requires { lists_size dependent packed.now ≤ 65535 }
     ensures { result ≡ frequencies_place dependent packed.now }
 {
-    let read = packed.size() - unread_size(packed);
-    2 + read as u16 + 3 * kept_rows(packed, dependent) + gap_size(packed) as u16
+    2 + bytes_read(packed) as u16 + 3 * kept_rows(packed, dependent) + gap_size(packed) as u16
 }
 
 /// How many bytes in front of them the label of the first list is.

@@ -1,7 +1,7 @@
--- They stand behind the fields that are read.
+-- It is behind the fields that are read.
 use Rattle.std.proofs.Common.{◌≡◌, ℕ, ◌+◌, ◌-◌, ◌*◌, arith}
 use Rattle.song_lists.proofs.Lists.{field_sums}
-use Rattle.song_lists.proofs.places.addresses_place.Goals as goal
+use Rattle.song_lists.proofs.places.one_timer_place.Goals as goal
 
 behind : (at count less place fields unread instruments : ℕ) → at ≡ place → count ≡ instruments → less ≡ unread →
     fields + unread ≡ 9 * instruments → at + (9 * count - less) + 1 ≡ place + fields + 1
