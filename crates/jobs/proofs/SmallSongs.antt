@@ -20,7 +20,7 @@ use Rattle.packing_rules.specs.SongSizes.{data_size, packed_size}
 use Rattle.packing_rules.proofs.Laws.{packed_size_is_within, first_seen_length, same_sets}
 use Rattle.asked_numbers.proofs.Laws.{ranges_lie_in_the_table}
 use Rattle.image_parts.specs.CodeParts.{code_length}
-use Rattle.image_parts.specs.Lengths.{slide_bytes, unread_bytes, frequency_bytes}
+use Rattle.image_parts.specs.Lengths.{slide_bytes, shared_bytes, unread_bytes, frequency_bytes}
 use Rattle.song_costs.specs.Kinds.{instrument_count, read_data}
 use Rattle.image_parts.proofs.Laws.{code_is_bounded}
 use Rattle.jobs.specs.Packed.{IsImageLength}
@@ -51,9 +51,10 @@ few_speeds song used =
     let all = length-range_with_len 1 MOST_TABLE_ROWS in
     omega (arith, seen, rows, counted, most, all)
 
--- so the slides, the frequencies and the code together are within the player's bound
+-- so what stands alone for all instruments, the slides, the frequencies and the code together are within the player's
+-- bound
 player_is_bounded : (song : Song) (o : Options) (features : ℕ) {count : ℕ} (is : IsImageLength song o count) →
-    slide_bytes is.asked (length (speed_rows song (is.used.pointers Speed)))
+    shared_bytes is.asked + slide_bytes is.asked (length (speed_rows song (is.used.pointers Speed)))
     + frequency_bytes is.numbers (read_data song is.used is.asked) + code_length is.asked o
     ≤ code_bound features o
 player_is_bounded song o features is =
@@ -61,21 +62,21 @@ player_is_bounded song o features is =
     (read_data song is.used is.asked) is.numbers o (few_speeds song (is.used.pointers Speed))
     (ranges_lie_in_the_table song is.numbers is.are_numbers)
 
-adds : (most bound size slides frequencies code count : ℕ) → size ≤ most → slides + frequencies + code ≤ bound →
-    count ≡ size + slides + frequencies + code → count ≤ most + bound
-adds most bound size slides frequencies code count p q is = omega (arith, p, q, is)
+adds : (most bound size shared slides frequencies code count : ℕ) → size ≤ most + shared →
+    shared + slides + frequencies + code ≤ bound → count ≡ size + slides + frequencies + code → count ≤ most + bound
+adds most bound size shared slides frequencies code count p q is = omega (arith, p, q, is)
 
 pub images_are_bounded : ImagesAreBounded
 images_are_bounded song o used features count is are_used are_features =
     subst (λ (u : UsedSets). count ≤ data_size song u + code_bound features o)
     (same_sets song is.used used is.are_used are_used)
-    (adds (data_size song is.used) (code_bound features o) (read_data song is.used is.asked) _ _
+    (adds (data_size song is.used) (code_bound features o) (read_data song is.used is.asked) (shared_bytes is.asked) _ _
     (code_length is.asked o) count
-    (less (packed_size song is.used) (unread_bytes is.asked (instrument_count is.used)) (data_size song is.used)
-    (packed_size_is_within song is.used)) (player_is_bounded song o features is) is.count_is)
+    (less (packed_size song is.used) (shared_bytes is.asked) (unread_bytes is.asked (instrument_count is.used))
+    (data_size song is.used) (packed_size_is_within song is.used)) (player_is_bounded song o features is) is.count_is)
   where
-    less : (size unread most : ℕ) → size ≤ most → size - unread ≤ most
-    less size unread most within = omega (arith, within)
+    less : (size shared unread most : ℕ) → size ≤ most → size + shared - unread ≤ most + shared
+    less size shared unread most within = omega (arith, within)
 
 pub only_large_images : OnlyLargeImagesAreRefused
 only_large_images files name address o lines song used features ends holds are_used are_features =

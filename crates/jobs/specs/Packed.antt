@@ -79,9 +79,9 @@ pub record IsPackedFile (psid : Bool) (address zero_page : ℕ) (song : Song) (o
   pub below : address + length image ≤ 0xD000
   pub faithful : IsFaithful image address zero_page song options
 
--- how many bytes the image of a song has: those that are read of its packed data, those of the slides and periods of
--- calculated speeds, those of the frequencies of the numbers that it asks for, with the gap in front of them, and those
--- of the player's parts that its features, its facts and the options want
+-- how many bytes the image of a song has: those that are read of its packed data, with those that stand for all of its
+-- instruments, those of the slides and periods of calculated speeds, those of the frequencies of the numbers that it asks
+-- for, with the gap in front of them, and those of the player's parts that its features, its facts and the options want
 pub record IsImageLength (song : Song) (options : Options) (count : ℕ) : Type 0 where
   pub used : UsedSets
   pub asked : ℕ

@@ -13,7 +13,7 @@ use Rattle.song_model.specs.LookUp.{instrument_at, playable_subtunes}
 use Rattle.play_model.specs.declared.options.Options.{Options}
 use Rattle.packed_form.specs.declared.packed_songs.PackedSong.{PackedSong}
 use Rattle.packed_form.specs.Sizes.{list_size, subtune_size, packed_song_size}
-use Rattle.player_memory.specs.SongLists.{unread_size}
+use Rattle.player_memory.specs.SongLists.{shared_size, unread_size}
 use Rattle.packing_rules.specs.Segments.{ProgramTable, numbers, row_of, keeps}
 use Rattle.packing_rules.specs.ProgramMaps.{retargeted}
 use Rattle.packing_rules.specs.UsedSets.{UsedSets}
@@ -23,7 +23,7 @@ use Rattle.packing_rules.specs.SongSizes.{order_size, orders_size, rows_size}
 use Rattle.kept_lines.specs.Asked.{asked_by}
 use Rattle.image_parts.specs.CodeParts.{code_length}
 use Rattle.image_parts.specs.Lengths.{slide_bytes, unread_bytes, read_bytes, read_of, frequency_bytes}
-use Rattle.image_parts.proofs.Laws.{unread_is, read_is}
+use Rattle.image_parts.proofs.Laws.{shared_is, unread_is, read_is}
 use Rattle.player_memory.proofs.Laws.{unread_few}
 use Rattle.song_pack.specs.Packed.{order_byte, order_bytes, packed_subtune, passing_numbers, packed_instrument, IsPacked}
 use Rattle.song_pack.proofs.Laws.{size_is}
@@ -102,36 +102,36 @@ same_costs a b c d e f g h i = rw (a, b, c, d, e, f, g, h, i) refl
 
 -- where each kind has the bytes that were counted, all have those of the image
 pub kinds_add_up : (packed : PackedSong) (slides frequencies : ℕ)
-    {player code patterns count unread wave pulse filters speed size : ℕ} → player ≡ code →
+    {player code patterns count shared unread wave pulse filters speed size : ℕ} → player ≡ code →
     patterns ≡ sum_by list_size packed.patterns → count ≡ length packed.instruments →
-    unread ≡ unread_size packed → wave ≡ 2 * length packed.wave → pulse ≡ 2 * length packed.pulse →
+    shared ≡ shared_size packed → unread ≡ unread_size packed → wave ≡ 2 * length packed.wave → pulse ≡ 2 * length packed.pulse →
     filters ≡ 2 * length packed.filter → speed ≡ 2 * length packed.speed →
     size ≡ packed_song_size packed →
-    player + (size - patterns - 9 * count - wave - pulse - filters - speed + patterns + (9 * count - unread) + wave
-    + pulse + filters + (speed + slides) + frequencies)
+    player + (size - patterns - 9 * count - wave - pulse - filters - speed + patterns + (9 * count + shared - unread)
+    + wave + pulse + filters + (speed + slides) + frequencies)
     ≡ read_of packed + slides + frequencies + code
-kinds_add_up packed slides frequencies a b c u d e f g h =
+kinds_add_up packed slides frequencies a b c s u d e f g h =
     let read = read_is packed in
     let few = unread_few packed in
-    sum (sum_by subtune_size packed.subtunes) _ _ _ _ _ _ _ _ _ _ (read_of packed) _ _ (length packed.instruments) a
-    (omega (arith, b, c, d, e, f, g, h)) c (omega (arith, u, few)) (omega (arith, read, u, h))
+    sum (sum_by subtune_size packed.subtunes) _ _ _ _ _ _ _ _ _ _ _ (read_of packed) _ _ (length packed.instruments) a
+    (omega (arith, b, c, d, e, f, g, h)) c (omega (arith, u, few)) (omega (arith, read, s, u, h))
   where
-    sum : (orders player code patterns count unread wave pulse filters speed size read slides frequencies
+    sum : (orders player code patterns count shared unread wave pulse filters speed size read slides frequencies
         instruments : ℕ) → player ≡ code →
         size ≡ orders + patterns + 9 * count + wave + pulse + filters + speed → count ≡ instruments →
-        unread ≤ 4 * instruments → read ≡ size - unread →
-        player + (size - patterns - 9 * count - wave - pulse - filters - speed + patterns + (9 * count - unread) + wave
-        + pulse + filters + (speed + slides) + frequencies)
+        unread ≤ 6 * instruments → read ≡ size + shared - unread →
+        player + (size - patterns - 9 * count - wave - pulse - filters - speed + patterns
+        + (9 * count + shared - unread) + wave + pulse + filters + (speed + slides) + frequencies)
         ≡ read + slides + frequencies + code
-    sum orders player code patterns count unread wave pulse filters speed size read slides frequencies instruments one
-        two three four five = omega (arith, one, two, three, four, five)
+    sum orders player code patterns count shared unread wave pulse filters speed size read slides frequencies
+        instruments one two three four five = omega (arith, one, two, three, four, five)
 
 -- numbers that were taken from the packed song
 pub costs_are : (song : Song) (used : UsedSets) (packed : PackedSong) (options : Options) → IsPacked song used packed →
-    {player patterns count unread wave pulse filters speed slides size frequencies : ℕ} →
+    {player patterns count shared unread wave pulse filters speed slides size frequencies : ℕ} →
     player ≡ code_length (asked_by packed) options → patterns ≡ sum_by list_size packed.patterns →
-    count ≡ length packed.instruments → unread ≡ unread_size packed → wave ≡ 2 * length packed.wave →
-    pulse ≡ 2 * length packed.pulse → filters ≡ 2 * length packed.filter → speed ≡ 2 * length packed.speed →
+    count ≡ length packed.instruments → shared ≡ shared_size packed → unread ≡ unread_size packed →
+    wave ≡ 2 * length packed.wave → pulse ≡ 2 * length packed.pulse → filters ≡ 2 * length packed.filter → speed ≡ 2 * length packed.speed →
     slides ≡ slide_bytes (asked_by packed) (length packed.speed) → size ≡ packed_song_size packed →
     frequencies ≡ frequency_bytes packed.numbers (read_of packed) →
     ◌≡◌ {A = Costs}
@@ -139,7 +139,7 @@ pub costs_are : (song : Song) (used : UsedSets) (packed : PackedSong) (options :
       player = player;
       orders = size - patterns - 9 * count - wave - pulse - filters - speed;
       patterns = patterns;
-      instruments = 9 * count - unread;
+      instruments = 9 * count + shared - unread;
       wave = wave;
       pulse = pulse;
       filter = filters;
@@ -147,14 +147,14 @@ pub costs_are : (song : Song) (used : UsedSets) (packed : PackedSong) (options :
       frequencies = frequencies;
     })
     (costs_of song used (asked_by packed) packed.numbers options)
-costs_are song used packed options is {player} {patterns} {count} {unread} {wave} {pulse} {filters} {speed} {slides}
-    {size} {frequencies} a b c u d e f g s h n =
+costs_are song used packed options is {player} {patterns} {count} {shared} {unread} {wave} {pulse} {filters} {speed}
+    {slides} {size} {frequencies} a b c o u d e f g s h n =
     let orders : size - patterns - 9 * count - wave - pulse - filters - speed ≡ sum_by subtune_size packed.subtunes =
     rest_is (sum_by subtune_size packed.subtunes) patterns (9 * count) wave pulse filters speed size (omega arith) in
     same_costs a
     (orders ∙ ap (sum_by subtune_size) is.subtunes ∙ orders_are (pattern_number song used) (playable_subtunes song))
     (b ∙ ap (sum_by list_size) is.patterns)
-    (fewer (c ∙ counted) (u ∙ sym (unread_is packed) ∙ ap (unread_bytes (asked_by packed)) counted))
+    (fewer (c ∙ counted) (o ∙ sym (shared_is packed)) (u ∙ sym (unread_is packed) ∙ ap (unread_bytes (asked_by packed)) counted))
     (d ∙ rows_are (wave_programs song used) packed.wave is.wave)
     (e ∙ rows_are (pulse_programs song used) packed.pulse is.pulse)
     (f ∙ rows_are (filter_programs song used) packed.filter is.filter)
@@ -166,8 +166,8 @@ costs_are song used packed options is {player} {patterns} {count} {unread} {wave
     counted : length packed.instruments ≡ instrument_count used
     counted = instruments_are song used packed is
 
-    fewer : {a b c d : ℕ} → a ≡ c → b ≡ d → 9 * a - b ≡ 9 * c - d
-    fewer x y = rw (x, y) refl
+    fewer : {a b c d e f : ℕ} → a ≡ d → b ≡ e → c ≡ f → 9 * a + b - c ≡ 9 * d + e - f
+    fewer x y z = rw (x, y, z) refl
 
     both : {a b c d : ℕ} → a ≡ c → b ≡ d → a + b ≡ c + d
     both x y = rw (x, y) refl

@@ -15,7 +15,7 @@ use Rattle.packing_rules.specs.Renumbering.{pattern_texts}
 use Rattle.packing_rules.specs.SongSizes.{orders_size, rows_size, packed_size}
 use Rattle.kept_lines.specs.KeptLines.{keeps}
 use Rattle.image_parts.specs.CodeParts.{always, code_parts, part_length, code_length}
-use Rattle.image_parts.specs.Lengths.{slide_bytes, unread_bytes, frequency_bytes}
+use Rattle.image_parts.specs.Lengths.{slide_bytes, shared_bytes, unread_bytes, frequency_bytes}
 use Rattle.image_parts.proofs.Laws as image_parts
 use Rattle.song_costs.specs.Kinds.{instrument_count, read_data, costs_of, data_bytes}
 use Rattle.song_costs.specs.CostLaws.{song_size, CostsAddUp, PartsAddUp}
@@ -24,11 +24,11 @@ use Rattle.song_costs.proofs.ToldSums.{DropsNone, dropped_sum, all_below}
 -- ---- kinds
 
 -- where the speed table has so many rows, and the slides and the frequencies so many bytes
-sizes_add_up : (orders patterns instruments unread wave pulse filters rows slides frequencies size : ℕ) →
-    size ≡ orders + 9 * instruments + 2 * rows + patterns + (wave + pulse + filters) → unread ≤ 4 * instruments →
-    orders + patterns + (9 * instruments - unread) + wave + pulse + filters + (2 * rows + slides) + frequencies
-    ≡ size - unread + slides + frequencies
-sizes_add_up orders patterns instruments unread wave pulse filters rows slides frequencies size is few =
+sizes_add_up : (orders patterns instruments shared unread wave pulse filters rows slides frequencies size : ℕ) →
+    size ≡ orders + 9 * instruments + 2 * rows + patterns + (wave + pulse + filters) → unread ≤ 6 * instruments →
+    orders + patterns + (9 * instruments + shared - unread) + wave + pulse + filters + (2 * rows + slides) + frequencies
+    ≡ size + shared - unread + slides + frequencies
+sizes_add_up orders patterns instruments shared unread wave pulse filters rows slides frequencies size is few =
     omega (arith, is, few)
 
 size_is : (song : Song) (used : UsedSets) → packed_size song used
@@ -43,7 +43,7 @@ size_is song used = refl
 data_adds_up : (song : Song) (used : UsedSets) (asked : ℕ) (range : NumberRange) (options : Options) →
     data_bytes (costs_of song used asked range options) ≡ song_size song used asked range
 data_adds_up song used asked range options =
-    sizes_add_up _ _ (instrument_count used) (unread_bytes asked (instrument_count used)) _ _ _
+    sizes_add_up _ _ (instrument_count used) (shared_bytes asked) (unread_bytes asked (instrument_count used)) _ _ _
     (length (speed_rows song (used.pointers Speed)))
     (slide_bytes asked (length (speed_rows song (used.pointers Speed))))
     (frequency_bytes range (read_data song used asked)) (packed_size song used) (size_is song used)
@@ -65,8 +65,8 @@ pub parts_add_up : PartsAddUp
 parts_add_up asked options =
     image_parts.parts_add_up asked options
     ∙ ap (λ (bytes : ℕ). part_length asked options always + bytes)
-    (sym (dropped_sum (keeps asked options) (part_length asked options) (range_with_len 0 55)
-    (all_below (DropsNone (keeps asked options) (part_length asked options)) 55
+    (sym (dropped_sum (keeps asked options) (part_length asked options) (range_with_len 0 57)
+    (all_below (DropsNone (keeps asked options) (part_length asked options)) 57
     (λ part high out. image_parts.unkept_parts_have_none asked options part
     (λ is. omega (arith, high, is)) out))))
 

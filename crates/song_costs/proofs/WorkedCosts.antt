@@ -8,15 +8,18 @@ use Rattle.song_model.specs.declared.features.Feature.TheVariants.{WaveCommand}
 use Rattle.song_model.specs.Feature.{bit_of}
 use Rattle.song_model.specs.LookUp.{table_row, pattern_at}
 use Rattle.play_model.specs.State.{no_options}
+use Rattle.play_model.specs.WorkedRuns.{first_left_out}
 use Rattle.packed_form.specs.PackedText.{packed_text}
 use Rattle.packing_rules.specs.Segments.{first_row, is_closed, are_equal, first_equal, keeps, stand_in}
 use Rattle.packing_rules.specs.Renumbering.{speed_rows, speed_number, table_number, instrument_number, pattern_text}
 use Rattle.packing_rules.specs.Renumbering.{pattern_texts}
 use Rattle.packing_rules.specs.SongSizes.{packed_size}
 use Rattle.song_facts.specs.declared.facts.Fact.{Fact}
-use Rattle.song_facts.specs.declared.facts.Fact.TheVariants.{RowSlide, FirstMask, GateNote, NoteFilter}
+use Rattle.song_facts.specs.declared.facts.Fact.TheVariants.{RowSlide, FirstMask, GateNote, NoteFilter, OwnTimer}
+use Rattle.song_facts.specs.declared.facts.Fact.TheVariants.{OwnWave}
 use Rattle.player_memory.specs.declared.conditions.TheConstants.{CLIMB, RISE, ROW_SLIDE, FIRST_MASK, GATE_NOTE}
-use Rattle.player_memory.specs.declared.conditions.TheConstants.{NOTE_FILTER, ROW_COMMAND, SPECIAL_ROW, EFFECTS}
+use Rattle.player_memory.specs.declared.conditions.TheConstants.{NOTE_FILTER, OWN_TIMER, OWN_WAVE, ROW_COMMAND}
+use Rattle.player_memory.specs.declared.conditions.TheConstants.{SPECIAL_ROW, EFFECTS}
 use Rattle.player_memory.specs.declared.conditions.TheConstants.{FILTER_USED}
 use Rattle.player_memory.specs.FactLines.{fact_condition}
 use Rattle.kept_lines.specs.Asked.{asked}
@@ -34,7 +37,8 @@ use Rattle.song_costs.specs.WorkedCosts.{NoteIsWorked, TablesAreCounted, part_co
 use Rattle.song_costs.specs.WorkedCosts.{InstrumentsAreCounted, FactPartsAreWorked, ListIsWorked, OptionsAreWorked}
 use Rattle.song_places.proofs.Laws.{own_places_are_first, fact_places_are_first}
 use Rattle.song_places.proofs.Laws.{transposes_are_worked, portamentos_are_worked, tables_are_worked, risen}
-use Rattle.song_places.proofs.Laws.{gate_notes_are_worked, facts_are_worked, wave_places_are_worked, crossing_first}
+use Rattle.song_places.proofs.Laws.{gate_notes_are_worked, facts_are_worked, pairs_are_worked, wave_places_are_worked}
+use Rattle.song_places.proofs.Laws.{crossing_first}
 use Rattle.song_places.proofs.Laws.{filter_places_are_worked}
 
 pub note_is_worked : NoteIsWorked
@@ -53,7 +57,14 @@ note_is_worked = record {
 
 pub instruments_are_counted : InstrumentsAreCounted
 unfolding asked kept_set
-instruments_are_counted = record { few = refl; pulse = refl }
+instruments_are_counted = record {
+  few = refl;
+  pulse = refl;
+  timers = refl;
+  waves = refl;
+  both = refl;
+  gate = refl;
+}
 
 pub tables_are_counted : TablesAreCounted
 unfolding packed_text first_row is_closed are_equal first_equal keeps stand_in speed_rows speed_number table_number
@@ -205,6 +216,36 @@ note_filters = record {
   cause = own_fact_first NoteFilter (InInstrument 3) facts_are_worked.filter;
 }
 
+timers : IsToldOf no_options (part_cost OWN_TIMER 14 (InSong (InInstrument 3)))
+unfolding asked kept_set voice_rows shared_rows asks has_byte voice_labels other_labels free_places funk_place
+    variable_count
+timers = record {
+  kept = refl;
+  bytes = refl;
+  some = λ e. absurd (omega arith);
+  cause = own_fact_first OwnTimer (InInstrument 3) pairs_are_worked.timer;
+}
+
+timers_skipped : IsToldOf (first_left_out 1) (part_cost OWN_TIMER 17 (InSong (InInstrument 3)))
+unfolding asked kept_set voice_rows shared_rows asks has_byte voice_labels other_labels free_places funk_place
+    variable_count
+timers_skipped = record {
+  kept = refl;
+  bytes = refl;
+  some = λ e. absurd (omega arith);
+  cause = own_fact_first OwnTimer (InInstrument 3) pairs_are_worked.timer;
+}
+
+first_waves : IsToldOf no_options (part_cost OWN_WAVE 3 (InSong (InInstrument 3)))
+unfolding asked kept_set voice_rows shared_rows asks has_byte voice_labels other_labels free_places funk_place
+    variable_count
+first_waves = record {
+  kept = refl;
+  bytes = refl;
+  some = λ e. absurd (omega arith);
+  cause = own_fact_first OwnWave (InInstrument 3) pairs_are_worked.wave;
+}
+
 row_commands : IsToldOf no_options (part_cost ROW_COMMAND 24 (InSong (InPattern 1 1)))
 unfolding asked kept_set voice_rows shared_rows asks has_byte voice_labels other_labels free_places funk_place
     variable_count
@@ -261,6 +302,15 @@ fact_parts_are_worked = record {
   filters = note_filters;
   unused_filter = λ told. facts_are_worked.unused_filter (first_own_fact NoteFilter (InInstrument 2) told.cause).is_such;
   no_pulse = λ bytes cause told. (let e = told.kept in absurd (cc));
+  timers = timers;
+  first_timer = λ told. pairs_are_worked.no_first_timer crossing
+      (first_own_fact OwnTimer (InInstrument 1) told.cause).is_such;
+  unused_timer = λ told. pairs_are_worked.unused_timer (first_own_fact OwnTimer (InInstrument 2) told.cause).is_such;
+  timers_skipped = timers_skipped;
+  waves = first_waves;
+  first_wave = λ told. pairs_are_worked.no_first_wave crossing
+      (first_own_fact OwnWave (InInstrument 1) told.cause).is_such;
+  unused_wave = λ told. pairs_are_worked.unused_wave (first_own_fact OwnWave (InInstrument 2) told.cause).is_such;
   commands = row_commands;
   special = special;
   effects = effects;
@@ -303,12 +353,12 @@ list_is_worked = record {
   all = record {
     parts = refl;
     each = (more transposes (more portamentos (more filters (more waves (more wave_commands (more climb (more rise
-        (more row_slides (more masks (more gate_notes (more note_filters (more row_commands
-        (more special (more effects (more filter_used nothing))))))))))))))).each;
+        (more row_slides (more masks (more gate_notes (more note_filters (more timers
+        (more first_waves (more row_commands (more special (more effects (more filter_used nothing))))))))))))))))).each;
   };
   other_order = λ rest kept. absurd
       (let e = same_head 15 0 (map (λ (cost : PartCost). cost.part) rest) (2 ∷ 15 ∷ 22 ∷ 23 ∷ CLIMB ∷ RISE ∷ ROW_SLIDE
-      ∷ FIRST_MASK ∷ GATE_NOTE ∷ NOTE_FILTER ∷ ROW_COMMAND ∷ SPECIAL_ROW ∷ EFFECTS ∷ FILTER_USED ∷ []) kept.parts in
+      ∷ FIRST_MASK ∷ GATE_NOTE ∷ NOTE_FILTER ∷ OWN_TIMER ∷ OWN_WAVE ∷ ROW_COMMAND ∷ SPECIAL_ROW ∷ EFFECTS ∷ FILTER_USED ∷ []) kept.parts in
       omega arith);
 }
 

@@ -1,7 +1,7 @@
 -- How many bytes a song takes in a packed file, kind by kind, by this project's own packed form. Orderlists and
 -- patterns are counted with two bytes each for their addresses, the speed table with the lists of slides and periods
 -- that a song with calculated speeds has, the frequencies with the gap in front of them, the player with the zeros in
--- front of the speed table's sides, and of the instruments the bytes that are read.
+-- front of the speed table's sides, and of the instruments the bytes that are read, with those that stand for all.
 use Rattle.std.specs.Prelude.{ℕ, ◌+◌, ◌*◌, length, sum_by, count_by}
 use Rattle.std.specs.Str.{bytes_eq}
 use Rattle.song_model.specs.declared.instruments.TheConstants.{MOST_INSTRUMENTS}
@@ -23,8 +23,8 @@ use Rattle.song_costs.specs.declared.costs.Costs.{Costs}
 abbrev pub speed_bytes : ℕ → ℕ → ℕ
 speed_bytes asked rows = 2 * rows + slide_bytes asked rows
 
--- how many instruments are used: each has nine bytes, of which four stand in an image only where one of these needs
--- them
+-- how many instruments are used: each has nine bytes, of which six stand in an image only where one of them needs such
+-- a byte, or two differ in it; a gateoff timer and a first waveform that are the same for all stand there once
 abbrev pub instrument_count : UsedSets → ℕ
 instrument_count used = count_by used.instruments (numbers MOST_INSTRUMENTS)
 

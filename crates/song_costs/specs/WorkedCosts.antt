@@ -17,7 +17,8 @@ use Rattle.packing_rules.specs.WorkedSizes.{among, note_sets, two_rests}
 use Rattle.song_facts.specs.declared.facts.Facts.{Facts}
 use Rattle.song_facts.specs.Facts.{no_facts}
 use Rattle.player_memory.specs.declared.conditions.TheConstants.{CLIMB, DROP, RISE, ROW_SLIDE, FIRST_MASK, LEGATO}
-use Rattle.player_memory.specs.declared.conditions.TheConstants.{GATE_NOTE, NOTE_PULSE, NOTE_FILTER, ROW_COMMAND}
+use Rattle.player_memory.specs.declared.conditions.TheConstants.{GATE_NOTE, NOTE_PULSE, NOTE_FILTER, OWN_TIMER}
+use Rattle.player_memory.specs.declared.conditions.TheConstants.{OWN_WAVE, ROW_COMMAND}
 use Rattle.player_memory.specs.declared.conditions.TheConstants.{SPECIAL_ROW, HELD_NOTE}
 use Rattle.player_memory.specs.declared.conditions.TheConstants.{EFFECTS, FILTER_USED}
 use Rattle.kept_lines.specs.Asked.{asked}
@@ -47,12 +48,13 @@ abbrev pub note_costs : Costs
 note_costs = costs_of one_note (note_sets (0 ∷ 1 ∷ [])) (asked note_features note_facts) note_range no_options
 
 -- three orderlists of one entry, the patterns 01 90 BE 00 and C0 00, one instrument, of which neither a filter program
--- nor a vibrato is read, two rows in each of two tables; 499 bytes of the player that each image has, 90 and 45 for a
--- pulse and a wave program, 12 for a keyoff, and 13 for an instrument that begins a pulse program; and the frequency of
--- number 48, with 41 bytes and a gap of seven in front of it
+-- nor a vibrato is read, and whose gateoff timer and first waveform stand for all, two rows in each of two tables; 490
+-- bytes of the player that each image has, 90 and 45 for a pulse and a wave program, 12 for a keyoff, and 13 for an
+-- instrument that begins a pulse program; and the frequency of number 48, with 41 bytes and a gap of seven in front of
+-- it
 pub record NoteIsWorked : Type 0 where
   pub each : note_costs ≡ record {
-    player = 659;
+    player = 650;
     orders = 15;
     patterns = 10;
     instruments = 6;
@@ -63,26 +65,32 @@ pub record NoteIsWorked : Type 0 where
     frequencies = 9;
   }
   pub bytes : data_bytes note_costs ≡ 48
-  pub all : all_bytes note_costs ≡ 707
+  pub all : all_bytes note_costs ≡ 698
   -- without the zeros, and with the frequency of the song's number alone
-  pub few : note_costs.player ≢ 657
+  pub few : note_costs.player ≢ 648
   pub alone : note_costs.frequencies ≢ 2
   -- without the facts
-  pub bare : (costs_of one_note (note_sets (0 ∷ 1 ∷ [])) note_features note_range no_options).player ≡ 634
+  pub bare : (costs_of one_note (note_sets (0 ∷ 1 ∷ [])) note_features note_range no_options).player ≡ 625
   -- an equal pattern is stored once, and a note for each of three orderlists isn't
   pub once : (costs_of two_rests (note_sets (0 ∷ 1 ∷ 2 ∷ [])) (asked note_features note_facts) note_range no_options).patterns
       ≡ 10
 
--- where two instruments are used, these and no third one are counted: with five bytes each where no instrument needs
--- another, and with six where one begins a pulse program
+-- where two instruments are used, these and no third one are counted: with three bytes each and two for both where no
+-- instrument needs another, and with four each where one begins a pulse program; where the two differ in their gateoff
+-- timers or their first waveforms with one more each and one less for both; and where one keeps the gate the timer of
+-- each is read, and the one for both stands there, too
 abbrev pub two_used : Facts → Costs
 two_used facts =
     costs_of one_note (record (note_sets (0 ∷ 1 ∷ [])) { instruments = among (1 ∷ 3 ∷ []) }) (asked note_features facts)
     note_range no_options
 
 pub record InstrumentsAreCounted : Type 0 where
-  pub few : (two_used no_facts).instruments ≡ 10
-  pub pulse : (two_used note_facts).instruments ≡ 12
+  pub few : (two_used no_facts).instruments ≡ 8
+  pub pulse : (two_used note_facts).instruments ≡ 10
+  pub timers : (two_used (record no_facts { own_timer = true })).instruments ≡ 9
+  pub waves : (two_used (record no_facts { own_wave = true })).instruments ≡ 9
+  pub both : (two_used (record no_facts { own_timer = true; own_wave = true })).instruments ≡ 10
+  pub gate : (two_used (record no_facts { legato = true })).instruments ≡ 10
 
 -- a note of an instrument with two wave rows, three pulse rows, four filter rows and a vibrato
 abbrev pub rich_note : Song
@@ -141,13 +149,21 @@ abbrev pub part_cost : ℕ → ℕ → Cause → PartCost
 part_cost part bytes cause = record { part = part; bytes = bytes; cause = cause }
 
 -- the song has transposes, portamentos, and commands in its wave table, and a filter program; and rows with a command
--- that runs, instruments whose first waveform is 0 and one that begins the filter program, a keyoff and a keyon
+-- that runs, an instrument whose first waveform is 0 and one that begins the filter program, which has another gateoff
+-- timer and another first waveform, a keyoff and a keyon
 abbrev pub crossing_features : ℕ
 crossing_features =
     2 ^ bit_of Transpose + 2 ^ bit_of PortaUp + 2 ^ bit_of FilterTable + 2 ^ bit_of WaveTable + 2 ^ bit_of WaveCommand
 
 abbrev pub crossing_facts : Facts
-crossing_facts = record no_facts { row_slide = true; first_mask = true; gate_note = true; note_filter = true }
+crossing_facts = record no_facts {
+  row_slide = true;
+  first_mask = true;
+  gate_note = true;
+  note_filter = true;
+  own_timer = true;
+  own_wave = true;
+}
 
 abbrev pub crossing_asked : ℕ
 crossing_asked = asked crossing_features crossing_facts
@@ -169,7 +185,8 @@ pub record PartsAreWorked : Type 0 where
   pub later_climb : ¬ IsToldOf no_options (part_cost CLIMB 10 (InSong (InPattern 2 0)))
   pub no_drop : (bytes : ℕ) (cause : Cause) → ¬ IsToldOf no_options (part_cost DROP bytes cause)
 
--- and so is one of a fact, and one that facts and features have in common
+-- and so is one of a fact, and one that facts and features have in common; what two instruments differ in is told with
+-- the one that differs from instrument 1
 pub record FactPartsAreWorked : Type 0 where
   pub slides : IsToldOf no_options (part_cost ROW_SLIDE 9 (InSong (InPattern 1 1)))
   pub later_slide : ¬ IsToldOf no_options (part_cost ROW_SLIDE 9 (InSong (InPattern 1 2)))
@@ -180,6 +197,13 @@ pub record FactPartsAreWorked : Type 0 where
   pub filters : IsToldOf no_options (part_cost NOTE_FILTER 13 (InSong (InInstrument 3)))
   pub unused_filter : ¬ IsToldOf no_options (part_cost NOTE_FILTER 13 (InSong (InInstrument 2)))
   pub no_pulse : (bytes : ℕ) (cause : Cause) → ¬ IsToldOf no_options (part_cost NOTE_PULSE bytes cause)
+  pub timers : IsToldOf no_options (part_cost OWN_TIMER 14 (InSong (InInstrument 3)))
+  pub first_timer : ¬ IsToldOf no_options (part_cost OWN_TIMER 14 (InSong (InInstrument 1)))
+  pub unused_timer : ¬ IsToldOf no_options (part_cost OWN_TIMER 14 (InSong (InInstrument 2)))
+  pub timers_skipped : IsToldOf (first_left_out 1) (part_cost OWN_TIMER 17 (InSong (InInstrument 3)))
+  pub waves : IsToldOf no_options (part_cost OWN_WAVE 3 (InSong (InInstrument 3)))
+  pub first_wave : ¬ IsToldOf no_options (part_cost OWN_WAVE 3 (InSong (InInstrument 1)))
+  pub unused_wave : ¬ IsToldOf no_options (part_cost OWN_WAVE 3 (InSong (InInstrument 2)))
   pub commands : IsToldOf no_options (part_cost ROW_COMMAND 24 (InSong (InPattern 1 1)))
   pub special : IsToldOf no_options (part_cost SPECIAL_ROW 4 (InSong (InWaveTable 2)))
   pub effects : IsToldOf no_options (part_cost EFFECTS 28 (InSong (InPattern 1 1)))
@@ -197,7 +221,8 @@ pub record ListIsWorked : Type 0 where
       ∷ part_cost 23 80 (InSong (InWaveTable 2)) ∷ part_cost CLIMB 10 (InSong (InPattern 1 1))
       ∷ part_cost RISE 17 (InSong (InPattern 1 1)) ∷ part_cost ROW_SLIDE 9 (InSong (InPattern 1 1))
       ∷ part_cost FIRST_MASK 6 (InSong (InInstrument 1)) ∷ part_cost GATE_NOTE 12 (InSong (InPattern 2 1))
-      ∷ part_cost NOTE_FILTER 13 (InSong (InInstrument 3))
+      ∷ part_cost NOTE_FILTER 13 (InSong (InInstrument 3)) ∷ part_cost OWN_TIMER 14 (InSong (InInstrument 3))
+      ∷ part_cost OWN_WAVE 3 (InSong (InInstrument 3))
       ∷ part_cost ROW_COMMAND 24 (InSong (InPattern 1 1)) ∷ part_cost SPECIAL_ROW 4 (InSong (InWaveTable 2))
       ∷ part_cost EFFECTS 28 (InSong (InPattern 1 1)) ∷ part_cost FILTER_USED 9 (InSong (InInstrument 3)) ∷ [])
   pub other_order : (rest : List PartCost) → ¬ AreKeptParts crossing crossing_asked no_options
@@ -210,8 +235,8 @@ pub record OptionsAreWorked : Type 0 where
       ¬ IsPartCost song (2 ^ bit_of Vibrato) no_options (part_cost 6 bytes cause)
   pub not_kept : (bytes : ℕ) (cause : Cause) → ¬ IsToldOf no_options (part_cost 13 bytes cause)
   pub skip : IsToldOf (all_left_out 4) (part_cost 24 8 SkipOption)
-  pub first : IsToldOf (first_left_out 1) (part_cost 27 40 SkipOption)
+  pub first : IsToldOf (first_left_out 1) (part_cost 27 37 SkipOption)
   pub timer : IsToldOf (all_left_out 4) (part_cost 26 10 SpeedOption)
-  pub not_first : ¬ IsToldOf (left_out true true 4) (part_cost 27 40 SkipOption)
+  pub not_first : ¬ IsToldOf (left_out true true 4) (part_cost 27 37 SkipOption)
   pub not_skip : ¬ IsToldOf no_options (part_cost 24 8 SkipOption)
   pub other_cause : ¬ IsToldOf (all_left_out 4) (part_cost 24 8 SpeedOption)

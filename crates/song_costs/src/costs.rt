@@ -14,7 +14,7 @@ ghost use Rattle.song_costs.specs.Kinds.{costs_of, all_bytes};
 use image_parts::{code_length, frequency_bytes, slide_bytes};
 use kept_lines::asked_by;
 use packed_form::{PackedPatternList, PackedSong};
-use player_memory::unread_size;
+use player_memory::{shared_size, unread_size};
 use song_model::Table;
 
 /// How many bytes a song takes in a packed file, kind by kind.
@@ -26,7 +26,8 @@ pub struct Costs {
     pub orders: u32,
     /// The patterns, with two bytes for the address of each.
     pub patterns: u32,
-    /// The instruments: of each the bytes that are read, five, and one more for each field that some instrument needs.
+    /// The instruments: of each the bytes that are read, three, and one more for each field that some instrument needs;
+    /// and one for all of them where they have the same gateoff timer, and where they have the same first waveform.
     pub instruments: u32,
     /// The rows of the wave table, two bytes each.
     pub wave: u32,
@@ -90,7 +91,7 @@ pub fn costs_by_kind(packed: &PackedSong, code: &[u8]) -> Costs
 {
     let patterns = patterns_bytes(&packed.patterns);
     let fields = 9 * packed.instruments.as_slice().len() as u32;
-    let instruments = fields - unread_size(packed);
+    let instruments = fields + shared_size(packed) - unread_size(packed);
     let wave = rows_bytes(&packed.wave);
     let pulse = rows_bytes(&packed.pulse);
     let filter = rows_bytes(&packed.filter);

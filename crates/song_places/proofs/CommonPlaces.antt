@@ -22,6 +22,7 @@ use Rattle.song_facts.specs.declared.facts.Fact.{Fact}
 use Rattle.song_facts.specs.declared.facts.Fact.TheVariants.{RowTone, RowSlide, RowOnce, FirstMask, Legato, NoHardRestart}
 use Rattle.song_facts.specs.declared.facts.Fact.TheVariants.{WaveDelay, GateNote, NoteVibrato, VibratoDelay, NotePulse, NoteFilter}
 use Rattle.song_facts.specs.declared.facts.Fact.TheVariants.{VoiceTempo, CommonTempo, FunkTurns, FunkChoice}
+use Rattle.song_facts.specs.declared.facts.Fact.TheVariants.{OwnTimer, OwnWave}
 use Rattle.player_memory.specs.declared.conditions.TheConstants.{SKIP_EFFECTS, CLIMB, FOUND_NOTE}
 use Rattle.player_memory.specs.FactLines.{fact_condition}
 use Rattle.song_places.specs.declared.places.Place.{Place}
@@ -94,27 +95,29 @@ no_rest song WaveTable meant = meant.1 refl
 no_rest song WaveCommand meant = meant
 
 -- no fact needs bytes of orderlists, nor a row that rests
-no_fact_byte : (fact : Fact) (b : ℕ) → ¬ (need_of_fact fact).byte b
-no_fact_byte fact b meant = meant
+no_fact_byte : (song : Song) (fact : Fact) (b : ℕ) → ¬ (need_of_fact song fact).byte b
+no_fact_byte song fact b meant = meant
 
-no_fact_rest : (fact : Fact) → ¬ (need_of_fact fact).row rest_row
-no_fact_rest RowTone meant = omega (arith, meant)
-no_fact_rest RowSlide meant = (let low = meant.0 in omega (arith, low))
-no_fact_rest RowOnce meant = omega (arith, meant)
-no_fact_rest FirstMask meant = meant
-no_fact_rest Legato meant = meant
-no_fact_rest NoHardRestart meant = meant
-no_fact_rest WaveDelay meant = meant
-no_fact_rest NoteVibrato meant = meant
-no_fact_rest VibratoDelay meant = meant
-no_fact_rest NotePulse meant = meant
-no_fact_rest NoteFilter meant = meant
-no_fact_rest VoiceTempo meant = (let is = meant.0 in omega (arith, is))
-no_fact_rest CommonTempo meant = (let is = meant.0 in omega (arith, is))
-no_fact_rest FunkTurns meant = (let is = meant.0 in omega (arith, is))
-no_fact_rest FunkChoice meant = omega (arith, meant)
-no_fact_rest GateNote (inl off) = omega (arith, off)
-no_fact_rest GateNote (inr on) = omega (arith, on)
+no_fact_rest : (song : Song) (fact : Fact) → ¬ (need_of_fact song fact).row rest_row
+no_fact_rest song RowTone meant = omega (arith, meant)
+no_fact_rest song RowSlide meant = (let low = meant.0 in omega (arith, low))
+no_fact_rest song RowOnce meant = omega (arith, meant)
+no_fact_rest song FirstMask meant = meant
+no_fact_rest song Legato meant = meant
+no_fact_rest song NoHardRestart meant = meant
+no_fact_rest song WaveDelay meant = meant
+no_fact_rest song NoteVibrato meant = meant
+no_fact_rest song VibratoDelay meant = meant
+no_fact_rest song NotePulse meant = meant
+no_fact_rest song NoteFilter meant = meant
+no_fact_rest song VoiceTempo meant = (let is = meant.0 in omega (arith, is))
+no_fact_rest song CommonTempo meant = (let is = meant.0 in omega (arith, is))
+no_fact_rest song FunkTurns meant = (let is = meant.0 in omega (arith, is))
+no_fact_rest song FunkChoice meant = omega (arith, meant)
+no_fact_rest song OwnTimer meant = meant
+no_fact_rest song OwnWave meant = meant
+no_fact_rest song GateNote (inl off) = omega (arith, off)
+no_fact_rest song GateNote (inr on) = omega (arith, on)
 
 -- what stands in an orderlist, or in a pattern, where a part is needed
 byte_needed : (song : Song) (part s c i : ℕ) → keeps_part (bit_of Transpose) part ≡ false →
@@ -122,7 +125,7 @@ byte_needed : (song : Song) (part s c i : ℕ) → keeps_part (bit_of Transpose)
 byte_needed song part s c i transposed repeated (inl h) =
     (let at = h.needs in no_byte song part h.feature transposed repeated h.is_kept at.byte at.is_meant)
 byte_needed song part s c i transposed repeated (inr h) =
-    (let at = h.needs in no_fact_byte h.fact at.byte at.is_meant)
+    (let at = h.needs in no_fact_byte song h.fact at.byte at.is_meant)
 
 pattern_used : (song : Song) (part p i : ℕ) → NeedsFor song part (InPattern p i) → IsUsedPattern song p
 pattern_used song part p i (inl h) = (let at = h.needs in at.used)
@@ -136,8 +139,8 @@ no_rest_needed song part p i rests (inl h) =
     (subst (need_of song h.feature).row (same_some at.row rest_row (sym at.there ∙ rests)) at.is_meant))
 no_rest_needed song part p i rests (inr h) =
     (let at = h.needs in
-    no_fact_rest h.fact
-    (subst (need_of_fact h.fact).row (same_some at.row rest_row (sym at.there ∙ rests)) at.is_meant))
+    no_fact_rest song h.fact
+    (subst (need_of_fact song h.fact).row (same_some at.row rest_row (sym at.there ∙ rests)) at.is_meant))
 
 -- what needs the part of notes that are reached is command 3
 is_reached : (song : Song) (feature : Feature) → keeps_part (bit_of feature) FOUND_NOTE ≡ true → (r : Row) →
@@ -304,6 +307,8 @@ no_fact_reaches VoiceTempo = refl
 no_fact_reaches CommonTempo = refl
 no_fact_reaches FunkTurns = refl
 no_fact_reaches FunkChoice = refl
+no_fact_reaches OwnTimer = refl
+no_fact_reaches OwnWave = refl
 
 none_in_zero : (i : ℕ) → ¬ NeedsFor (sliding 1 3) FOUND_NOTE (InPattern 0 i)
 none_in_zero i (inl h) = no_note_in_zero h.feature i h.is_kept h.needs

@@ -1,16 +1,20 @@
 -- A song has a fact exactly where some place gives it.
+use Rattle.std.proofs.Common.{◌≢◌, ℕ, refl, sym, ◌∙◌, inl, inr}
+use Rattle.std.proofs.lemmas.Bool.Decides.{eqb_tells}
 use Rattle.song_model.specs.declared.rows.Row.{Row}
 use Rattle.song_model.specs.declared.instruments.Instrument.{Instrument}
 use Rattle.song_model.specs.declared.tables.TableRow.{TableRow}
 use Rattle.song_model.specs.declared.songs.Song.{Song}
+use Rattle.song_model.specs.LookUp.{instrument_at}
 use Rattle.song_facts.specs.declared.facts.Fact.{Fact}
 use Rattle.song_facts.specs.declared.facts.Fact.TheVariants.{RowTone, RowSlide, RowOnce, FirstMask, Legato, NoHardRestart}
 use Rattle.song_facts.specs.declared.facts.Fact.TheVariants.{WaveDelay, GateNote, NoteVibrato, VibratoDelay, NotePulse, NoteFilter}
 use Rattle.song_facts.specs.declared.facts.Fact.TheVariants.{VoiceTempo, CommonTempo, FunkTurns, FunkChoice}
+use Rattle.song_facts.specs.declared.facts.Fact.TheVariants.{OwnTimer, OwnWave}
 use Rattle.song_facts.specs.Facts.{IsTone, IsSlide, IsOnce, IsGateNote, IsMask, IsLegato, KeepsEnvelope, IsDelay}
-use Rattle.song_facts.specs.Facts.{HasVibrato, HasVibratoDelay, HasPulse, HasFilter}
+use Rattle.song_facts.specs.Facts.{HasVibrato, HasVibratoDelay, HasPulse, HasFilter, DifferInTimer, DifferInWave}
 use Rattle.song_facts.specs.Facts.{IsVoiceTempo, IsCommonTempo, IsFunkTurns, IsFunkChoice}
-use Rattle.song_facts.specs.Facts.{HasSuchRow, HasSuchInstrument, HasSuchWaveRow, HasFact}
+use Rattle.song_facts.specs.Facts.{timer_of, HasSuchRow, HasSuchInstrument, HasSuchPair, HasSuchWaveRow, HasFact}
 use Rattle.song_places.specs.declared.places.Place.{Place}
 use Rattle.song_places.specs.declared.places.Place.TheVariants.{InOrder, InPattern, InInstrument, InWaveTable}
 use Rattle.song_places.specs.Needs.{nothing, need_of_fact}
@@ -18,19 +22,42 @@ use Rattle.song_places.specs.Places.{IsNeededAt, NeedsFactAt}
 use Rattle.song_places.specs.PlaceLaws.{IsFactNeeded, FactsAreNeeded}
 use Rattle.song_places.proofs.FeaturePlaces.{row_to, row_from}
 
+-- ---- two instruments
+
+-- where two used instruments differ in a number, one of them differs from instrument 1
+other_than_first : (song : Song) (number : Instrument → ℕ) → HasSuchPair song (λ one other. number one ≢ number other) →
+    HasSuchInstrument song (λ i. number (instrument_at song 1) ≢ number i)
+other_than_first song number h =
+    elim (eqb_tells (number (instrument_at song 1)) (number (instrument_at song h.one))) [
+      | inl same ↦ record { instrument = h.other; used = h.other_used; is_such = λ e. h.differ (sym same.1 ∙ e) }
+      | inr differ ↦ record { instrument = h.one; used = h.one_used; is_such = differ.1 }
+    ]
+
+-- and instrument 1 is used
+with_first : (song : Song) (number : Instrument → ℕ) →
+    HasSuchInstrument song (λ i. number (instrument_at song 1) ≢ number i) →
+    HasSuchPair song (λ one other. number one ≢ number other)
+with_first song number h = record {
+  one = 1;
+  other = h.instrument;
+  one_used = inl refl;
+  other_used = h.used;
+  differ = h.is_such;
+}
+
 -- ---- from what is had to its place
 
-row_place : (song : Song) (fact : Fact) → HasSuchRow song (need_of_fact fact).row → IsFactNeeded song fact
+row_place : (song : Song) (fact : Fact) → HasSuchRow song (need_of_fact song fact).row → IsFactNeeded song fact
 row_place song fact h =
-    let at = row_to song (need_of_fact fact).row h.row h.used h.is_such in
+    let at = row_to song (need_of_fact song fact).row h.row h.used h.is_such in
     record { place = InPattern h.used.pattern at.0; needs = at.1 }
 
-instrument_place : (song : Song) (fact : Fact) → HasSuchInstrument song (need_of_fact fact).instrument →
+instrument_place : (song : Song) (fact : Fact) → HasSuchInstrument song (need_of_fact song fact).instrument →
     IsFactNeeded song fact
 instrument_place song fact h =
     record { place = InInstrument h.instrument; needs = record { used = h.used; is_meant = h.is_such } }
 
-wave_row_place : (song : Song) (fact : Fact) → HasSuchWaveRow song (need_of_fact fact).wave_row →
+wave_row_place : (song : Song) (fact : Fact) → HasSuchWaveRow song (need_of_fact song fact).wave_row →
     IsFactNeeded song fact
 wave_row_place song fact h =
     record { place = InWaveTable h.p; needs = record { reached = h.reached; is_meant = h.is_such } }
@@ -52,6 +79,8 @@ has_fact_place song VoiceTempo h = row_place song VoiceTempo h
 has_fact_place song CommonTempo h = row_place song CommonTempo h
 has_fact_place song FunkTurns h = row_place song FunkTurns h
 has_fact_place song FunkChoice h = row_place song FunkChoice h
+has_fact_place song OwnTimer h = instrument_place song OwnTimer (other_than_first song timer_of h)
+has_fact_place song OwnWave h = instrument_place song OwnWave (other_than_first song (λ i. i.first_wave) h)
 
 -- ---- and from a place to what is had
 
@@ -94,6 +123,10 @@ has_fact song VoiceTempo place at = row_had song IsVoiceTempo place at
 has_fact song CommonTempo place at = row_had song IsCommonTempo place at
 has_fact song FunkTurns place at = row_had song IsFunkTurns place at
 has_fact song FunkChoice place at = row_had song IsFunkChoice place at
+has_fact song OwnTimer place at =
+    with_first song timer_of (instrument_had song (DifferInTimer (instrument_at song 1)) place at)
+has_fact song OwnWave place at =
+    with_first song (λ i. i.first_wave) (instrument_had song (DifferInWave (instrument_at song 1)) place at)
 
 pub facts_are_needed : FactsAreNeeded
 facts_are_needed song fact =

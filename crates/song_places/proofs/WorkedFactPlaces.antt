@@ -6,16 +6,17 @@ use Rattle.song_model.specs.LookUp.{pattern_at, instrument_at}
 use Rattle.song_model.specs.Silence.{rest_row}
 use Rattle.play_model.specs.Used.{IsUsedPattern, IsUsedInstrument}
 use Rattle.play_model.specs.WorkedSongs.{row}
-use Rattle.song_facts.specs.declared.facts.Fact.TheVariants.{RowSlide, FirstMask, GateNote, NotePulse, NoteFilter}
+use Rattle.song_facts.specs.declared.facts.Fact.TheVariants.{RowSlide, FirstMask, GateNote, NoteFilter}
+use Rattle.song_facts.specs.declared.facts.Fact.TheVariants.{OwnTimer, OwnWave}
 use Rattle.song_facts.specs.Facts.{IsGateNote}
 use Rattle.player_memory.specs.declared.conditions.TheConstants.{ROW_SLIDE}
 use Rattle.song_places.specs.declared.places.Place.{Place}
 use Rattle.song_places.specs.declared.places.Place.TheVariants.{InOrder, InPattern, InInstrument, InWaveTable}
 use Rattle.song_places.specs.Places.{NeedsFactAt, IsNotAfter, IsFirstFactPlace}
-use Rattle.song_places.specs.WorkedPlaces.{crossing, GateNotesAreWorked, FactsAreWorked}
+use Rattle.song_places.specs.WorkedPlaces.{crossing, GateNotesAreWorked, FactsAreWorked, PairsAreWorked}
 use Rattle.song_places.proofs.Ranks.{lower}
 use Rattle.song_places.proofs.KeptParts.{fact_places_are_first}
-use Rattle.song_places.proofs.WorkedPlaces.{used_pattern, played_one, played_two, used_three, not_two}
+use Rattle.song_places.proofs.WorkedPlaces.{used_pattern, played_one, played_two, used_three, not_two, other_used}
 use Rattle.song_places.proofs.CommonPlaces.{crossing_first}
 
 -- ---- keyoff and keyon
@@ -128,9 +129,54 @@ facts_are_worked = record {
   in_wave_table = λ at. at.is_meant;
   mask = record { is_such = masked; first = mask_first };
   unused = λ at. not_two at.used;
-  later = record { used = used_three; is_meant = inl refl };
+  later = record { used = used_three; is_meant = inr (omega arith) };
   not_first = λ first. (let e = first.first (InInstrument 1) masked in cc);
   filter = record { is_such = filtered; first = filter_first };
   unused_filter = λ at. not_two at.used;
   no_pulse = λ at. at.is_meant refl;
+}
+
+-- ---- two instruments
+
+own_timer : NeedsFactAt crossing OwnTimer (InInstrument 3)
+unfolding instrument_at
+own_timer = record { used = used_three; is_meant = λ e. omega (arith, e) }
+
+timer_first : (other : Place) → NeedsFactAt crossing OwnTimer other → IsNotAfter (InInstrument 3) other
+timer_first (InOrder s c i) at = absurd at.is_meant
+timer_first (InPattern p i) at = absurd at.is_meant
+timer_first (InInstrument zero) at = absurd (no_zero at.used)
+timer_first (InInstrument (suc zero)) at = absurd (at.is_meant refl)
+timer_first (InInstrument (suc (suc zero))) at = absurd (not_two at.used)
+timer_first (InInstrument (suc (suc (suc zero)))) at = refl
+timer_first (InInstrument (suc (suc (suc (suc n))))) at =
+    (lower (3 ∷ []) 3 (suc (suc (suc (suc n)))) [] [] (omega arith)).is
+timer_first (InWaveTable p) at = refl
+
+own_wave : NeedsFactAt crossing OwnWave (InInstrument 3)
+unfolding instrument_at
+own_wave = record { used = used_three; is_meant = λ e. omega (arith, e) }
+
+wave_first : (other : Place) → NeedsFactAt crossing OwnWave other → IsNotAfter (InInstrument 3) other
+wave_first (InOrder s c i) at = absurd at.is_meant
+wave_first (InPattern p i) at = absurd at.is_meant
+wave_first (InInstrument zero) at = absurd (no_zero at.used)
+wave_first (InInstrument (suc zero)) at = absurd (at.is_meant refl)
+wave_first (InInstrument (suc (suc zero))) at = absurd (not_two at.used)
+wave_first (InInstrument (suc (suc (suc zero)))) at = refl
+wave_first (InInstrument (suc (suc (suc (suc n))))) at =
+    (lower (3 ∷ []) 3 (suc (suc (suc (suc n)))) [] [] (omega arith)).is
+wave_first (InWaveTable p) at = refl
+
+pub pairs_are_worked : PairsAreWorked
+unfolding instrument_at
+pairs_are_worked = record {
+  timer = record { is_such = own_timer; first = timer_first };
+  unused_timer = λ at. not_two at.used;
+  no_first_timer = λ song at. at.is_meant refl;
+  wave = record { is_such = own_wave; first = wave_first };
+  unused_wave = λ at. not_two at.used;
+  no_first_wave = λ song at. at.is_meant refl;
+  other_wave = record { used = other_used; is_meant = λ e. omega (arith, e) };
+  same_timer = λ at. at.is_meant refl;
 }

@@ -436,6 +436,10 @@ trembling_two = inr (record {
   some = λ e. absurd (omega arith);
 })
 
+pub other_used : IsUsedInstrument (other_vibrato 5) 2
+unfolding trembling
+other_used = trembling_two
+
 before_vibrato : (k : ℕ) → k < 2 → IsNowhereUnder trembling vibratos (3 ∷ k ∷ [])
 unfolding trembling vibratos instrument_at
 before_vibrato zero few place such = (instrument_of trembling vibratos 0 place such).is_meant.0 refl

@@ -19,7 +19,11 @@ use Rattle.song_model.specs.LookUp.{speed_row, instrument_at}
 use Rattle.song_model.specs.Pointers.{instrument_pointer, command_table, wave_row_table}
 use Rattle.play_model.specs.Features.{IsAny, HasInstrument}
 use Rattle.song_facts.specs.declared.facts.Fact.{Fact}
-use Rattle.song_facts.specs.Facts.{IsOfRow, IsOfInstrument, IsOfWaveRow}
+use Rattle.song_facts.specs.declared.facts.Fact.TheVariants.{RowTone, RowSlide, RowOnce, FirstMask, Legato, NoHardRestart}
+use Rattle.song_facts.specs.declared.facts.Fact.TheVariants.{WaveDelay, GateNote, NoteVibrato, VibratoDelay, NotePulse, NoteFilter}
+use Rattle.song_facts.specs.declared.facts.Fact.TheVariants.{VoiceTempo, CommonTempo, FunkTurns, FunkChoice}
+use Rattle.song_facts.specs.declared.facts.Fact.TheVariants.{OwnTimer, OwnWave}
+use Rattle.song_facts.specs.Facts.{IsOfRow, IsOfInstrument, IsOfWaveRow, DifferInTimer, DifferInWave}
 
 pub record Need : Type 1 where
   pub byte : ℕ → Type 0
@@ -95,7 +99,29 @@ need_of song SetTempo = of_rows (λ c d. (c ≡ 0xF) × (3 ≤ d % 128))
 need_of song WaveTable = of_pointers Wave IsAny
 need_of song WaveCommand = of_left_sides 0xF0 0xFE
 
+-- An instrument gives a song the fact. Each voice begins with instrument 1, so a fact of two instruments is given by one
+-- that differs from it, and its first place is the first used instrument that does.
+abbrev pub GivesFact : Song → Fact → Instrument → Type 0
+GivesFact song RowTone = IsOfInstrument RowTone
+GivesFact song RowSlide = IsOfInstrument RowSlide
+GivesFact song RowOnce = IsOfInstrument RowOnce
+GivesFact song FirstMask = IsOfInstrument FirstMask
+GivesFact song Legato = IsOfInstrument Legato
+GivesFact song NoHardRestart = IsOfInstrument NoHardRestart
+GivesFact song WaveDelay = IsOfInstrument WaveDelay
+GivesFact song GateNote = IsOfInstrument GateNote
+GivesFact song NoteVibrato = IsOfInstrument NoteVibrato
+GivesFact song VibratoDelay = IsOfInstrument VibratoDelay
+GivesFact song NotePulse = IsOfInstrument NotePulse
+GivesFact song NoteFilter = IsOfInstrument NoteFilter
+GivesFact song VoiceTempo = IsOfInstrument VoiceTempo
+GivesFact song CommonTempo = IsOfInstrument CommonTempo
+GivesFact song FunkTurns = IsOfInstrument FunkTurns
+GivesFact song FunkChoice = IsOfInstrument FunkChoice
+GivesFact song OwnTimer = DifferInTimer (instrument_at song 1)
+GivesFact song OwnWave = DifferInWave (instrument_at song 1)
+
 -- what gives a song the fact
-abbrev pub need_of_fact : Fact → Need
-need_of_fact fact =
-    record nothing { row = IsOfRow fact; instrument = IsOfInstrument fact; wave_row = IsOfWaveRow fact }
+abbrev pub need_of_fact : Song → Fact → Need
+need_of_fact song fact =
+    record nothing { row = IsOfRow fact; instrument = GivesFact song fact; wave_row = IsOfWaveRow fact }

@@ -59,7 +59,7 @@ NeedsAt song feature = IsNeededAt song (need_of song feature)
 
 -- what stands at the place gives the song the fact
 abbrev pub NeedsFactAt : Song → Fact → Place → Type 0
-NeedsFactAt song fact = IsNeededAt song (need_of_fact fact)
+NeedsFactAt song fact = IsNeededAt song (need_of_fact song fact)
 
 -- ---- the order
 

@@ -31,7 +31,7 @@ meant song (Pointers name) = of_pointers name IsAny
 meant song NoteSpeeds = of_pointers Speed (λ p. 0x80 ≤ (speed_row song p).left)
 meant song Vibrato = record nothing { instrument = λ i. i.vibrato ≢ 0 }
 meant song WaveCommands = of_left_sides 0xF0 0xFE
-meant song (OfFact fact) = need_of_fact fact
+meant song (OfFact fact) = need_of_fact song fact
 
 -- the numbers of the place begin so
 pub record IsUnder (front : List ℕ) (place : Place) : Type 0 where

@@ -8,6 +8,7 @@ use Rattle.song_model.specs.LookUp.{zero_instrument}
 use Rattle.song_model.specs.Silence.{empty_song, rest_row}
 use Rattle.play_model.specs.WorkedSongs.{subtune, row, sides, other_vibrato}
 use Rattle.song_facts.specs.declared.facts.Fact.TheVariants.{RowSlide, FirstMask, GateNote, NotePulse, NoteFilter}
+use Rattle.song_facts.specs.declared.facts.Fact.TheVariants.{OwnTimer, OwnWave}
 use Rattle.player_memory.specs.declared.conditions.TheConstants.{PORTA_UP, SKIP_EFFECTS, CLIMB, FOUND_NOTE, ROW_SLIDE}
 use Rattle.player_memory.specs.declared.conditions.TheConstants.{ROW_COMMAND, SPECIAL_ROW, EFFECTS, FILTER_USED}
 use Rattle.song_places.specs.declared.places.Place.{Place}
@@ -16,15 +17,16 @@ use Rattle.song_places.specs.Places.{NeedsAt, NeedsFactAt, IsNotAfter, IsFirstPl
 use Rattle.song_places.specs.PartPlaces.{NeedsFor, IsPartPlace}
 
 -- the first subtune has an empty orderlist, so it isn't played, nor are pattern 0 and instrument 2 used; in the second
--- one channels 2 and 3 have a transpose each, and pattern 2 names instrument 3 and has a keyoff and a keyon
+-- one channels 2 and 3 have a transpose each, and pattern 2 names instrument 3 and has a keyoff and a keyon; instruments
+-- 2 and 3 have another gateoff timer and another first waveform than instrument 1
 abbrev pub crossing : Song
 crossing = record empty_song {
   subtunes = subtune (0xE1 ∷ 0 ∷ []) [] (0 ∷ [])
       ∷ subtune (1 ∷ []) (1 ∷ 0xF0 ∷ 1 ∷ []) (0xE2 ∷ 2 ∷ []) ∷ [];
   patterns = (row 0x90 2 1 0 ∷ row 0xBE 0 0 0 ∷ []) ∷ (rest_row ∷ row 0xBD 0 1 0 ∷ row 0xBD 0 1 0 ∷ [])
       ∷ (row 0x90 3 1 0 ∷ row 0xBE 0 0 0 ∷ row 0xBF 0 0 0 ∷ []) ∷ [];
-  instruments = (record zero_instrument { wave = 1 }) ∷ (record zero_instrument { filter = 1 })
-      ∷ (record zero_instrument { filter = 1 }) ∷ [];
+  instruments = (record zero_instrument { wave = 1 }) ∷ (record zero_instrument { filter = 1; gate_timer = 2; first_wave = 0xFE })
+      ∷ (record zero_instrument { filter = 1; gate_timer = 2; first_wave = 0xFE }) ∷ [];
   wave = sides 0x41 0 ∷ sides 0xF1 0 ∷ sides 0xFF 0 ∷ [];
   filter = sides 0x90 0 ∷ sides 0xFF 0 ∷ [];
 }
@@ -71,8 +73,9 @@ pub record GateNotesAreWorked : Type 0 where
   pub later : NeedsFactAt crossing GateNote (InPattern 2 2)
   pub not_first : ¬ IsFirstFactPlace crossing GateNote (InPattern 2 2)
 
--- a command of the wave table is no row's; instrument 1 is used by each song, and its first waveform is 0, as is that
--- of an instrument that isn't used, and of a later one, which begins the filter program and no pulse program
+-- a command of the wave table is no row's; instrument 1 is used by each song, and its first waveform is 0, and that of
+-- an instrument that isn't used is a mask, as is that of a later one, which begins the filter program and no pulse
+-- program
 pub record FactsAreWorked : Type 0 where
   pub slide : IsFirstFactPlace crossing RowSlide (InPattern 1 1)
   pub next_row : ¬ IsFirstFactPlace crossing RowSlide (InPattern 1 2)
@@ -84,6 +87,18 @@ pub record FactsAreWorked : Type 0 where
   pub filter : IsFirstFactPlace crossing NoteFilter (InInstrument 3)
   pub unused_filter : ¬ NeedsFactAt crossing NoteFilter (InInstrument 2)
   pub no_pulse : ¬ NeedsFactAt crossing NotePulse (InInstrument 3)
+
+-- Two instruments differ where one that is used differs from instrument 1, which never gives the fact itself; nor does
+-- one that isn't used. Where the first waveforms differ, the gateoff timers may be one.
+pub record PairsAreWorked : Type 0 where
+  pub timer : IsFirstFactPlace crossing OwnTimer (InInstrument 3)
+  pub unused_timer : ¬ NeedsFactAt crossing OwnTimer (InInstrument 2)
+  pub no_first_timer : (song : Song) → ¬ NeedsFactAt song OwnTimer (InInstrument 1)
+  pub wave : IsFirstFactPlace crossing OwnWave (InInstrument 3)
+  pub unused_wave : ¬ NeedsFactAt crossing OwnWave (InInstrument 2)
+  pub no_first_wave : (song : Song) → ¬ NeedsFactAt song OwnWave (InInstrument 1)
+  pub other_wave : NeedsFactAt (other_vibrato 5) OwnWave (InInstrument 2)
+  pub same_timer : ¬ NeedsFactAt (other_vibrato 5) OwnTimer (InInstrument 2)
 
 -- ---- what features have in common
 

@@ -3,7 +3,7 @@
 ghost use Rattle.song_places.specs.PlaceLaws.{FeaturesAreNeeded, FactsAreNeeded, PartsAreNeeded};
 ghost use Rattle.song_places.specs.PlaceLaws.{OwnPlacesAreFirst, FactPlacesAreFirst, FirstPlacesAreOne};
 ghost use Rattle.song_places.specs.WorkedPlaces.{TransposesAreWorked, PortamentosAreWorked, TablesAreWorked};
-ghost use Rattle.song_places.specs.WorkedPlaces.{VibratosAreWorked, GateNotesAreWorked, FactsAreWorked};
+ghost use Rattle.song_places.specs.WorkedPlaces.{VibratosAreWorked, GateNotesAreWorked, FactsAreWorked, PairsAreWorked};
 ghost use Rattle.song_places.specs.WorkedPlaces.{CommonPlacesAreWorked, RowPlacesAreWorked, WavePlacesAreWorked};
 ghost use Rattle.song_places.specs.WorkedPlaces.{FilterPlacesAreWorked, PlacesInOrder};
 
@@ -21,8 +21,8 @@ pub fn features_have_first_places()
 
 /// First places of small songs: in an orderlist, in a pattern, an instrument and in the wave table, of features and of
 /// facts, with others beside them that are later, or that aren't used; the place of a vibrato, which is that of its
-/// parameter; and the places of parts that several features or facts have in common.
-#[tactic(auto, using(crate::proofs::WorkedPlaces::transposes_are_worked, crate::proofs::WorkedPlaces::portamentos_are_worked, crate::proofs::WorkedPlaces::tables_are_worked, crate::proofs::WorkedPlaces::vibratos_are_worked, crate::proofs::WorkedFactPlaces::gate_notes_are_worked, crate::proofs::WorkedFactPlaces::facts_are_worked, crate::proofs::CommonPlaces::common_places_are_worked, crate::proofs::SharedPlaces::row_places_are_worked, crate::proofs::SharedPlaces::wave_places_are_worked, crate::proofs::FilterPlaces::filter_places_are_worked))]
+/// parameter; that of what two instruments differ in, which is never instrument 1; and the places of parts that several features or facts have in common.
+#[tactic(auto, using(crate::proofs::WorkedPlaces::transposes_are_worked, crate::proofs::WorkedPlaces::portamentos_are_worked, crate::proofs::WorkedPlaces::tables_are_worked, crate::proofs::WorkedPlaces::vibratos_are_worked, crate::proofs::WorkedFactPlaces::gate_notes_are_worked, crate::proofs::WorkedFactPlaces::facts_are_worked, crate::proofs::WorkedFactPlaces::pairs_are_worked, crate::proofs::CommonPlaces::common_places_are_worked, crate::proofs::SharedPlaces::row_places_are_worked, crate::proofs::SharedPlaces::wave_places_are_worked, crate::proofs::FilterPlaces::filter_places_are_worked))]
 pub fn worked_places()
     ensures orders { TransposesAreWorked }
     ensures patterns { PortamentosAreWorked }
@@ -30,6 +30,7 @@ pub fn worked_places()
     ensures vibrato { VibratosAreWorked }
     ensures gate { GateNotesAreWorked }
     ensures facts { FactsAreWorked }
+    ensures pairs { PairsAreWorked }
     ensures common { CommonPlacesAreWorked }
     ensures rows { RowPlacesAreWorked }
     ensures wave { WavePlacesAreWorked }

@@ -6,7 +6,7 @@ ghost use Rattle.song_model.specs.declared.tables.TableName.TheVariants.{Speed};
 ghost use Rattle.song_model.specs.LookUp.{speed_row};
 ghost use Rattle.play_model.specs.Features.{IsAny, HasFeature};
 ghost use Rattle.song_places.specs.declared.places.Place.{Place};
-ghost use Rattle.song_places.specs.Needs.{Points};
+ghost use Rattle.song_places.specs.Needs.{Points, GivesFact};
 ghost use Rattle.song_places.specs.Places.{IsNeededAt, NeedsAt};
 ghost use Rattle.song_places.specs.Search.{IsParameter, meant};
 
@@ -77,6 +77,16 @@ fn points_at_note_speed(song: &Song, table: Option<TableName>, pointer: u8) -> b
         Points Speed (λ p. 0x80 ≤ (speed_row song.now p).left) table pointer }
 {
     points(table, TableName::Speed, pointer) && song.speed(pointer).left >= 0x80
+}
+
+/// Whether an instrument gives the song the fact: by itself, or as one that differs from instrument 1.
+fn gives_fact(song: &Song, fact: Fact, instrument: &Instrument) -> bool
+    ensures { IsTrue result ↔ GivesFact song.now fact instrument.now }
+{
+    match fact {
+        Fact::OwnTimer | Fact::OwnWave => fact.is_of_pair(&song.instrument(1), instrument),
+        _ => fact.is_of_instrument(instrument),
+    }
 }
 
 impl Wanted {
@@ -151,7 +161,7 @@ impl Wanted {
                 points_at_note_speed(song, Some(TableName::Speed), instrument.vibrato)
             }
             Wanted::Vibrato => instrument.vibrato != 0,
-            Wanted::OfFact(fact) => fact.is_of_instrument(instrument),
+            Wanted::OfFact(fact) => gives_fact(song, fact, instrument),
             _ => false,
         }
     }

@@ -20,14 +20,14 @@ with_lists read code e f = rw (e, f) refl
 pub returns-clause-exact : goal.returns-clause-exact
 returns-clause-exact c = λ song used options is code_is.
     costs_are song used c.args.packed.now options is (c.code_length.ensures ∙ ap length_of code_is)
-    c.patterns_bytes-patterns.ensures.size (ap length c.as_slice.ensures.items) c.unread_size.ensures.size
+    c.patterns_bytes-patterns.ensures.size (ap length c.as_slice.ensures.items) c.shared_size.ensures.size c.unread_size.ensures.size
     c.rows_bytes-wave.ensures.size c.rows_bytes-pulse.ensures.size c.rows_bytes-filter.ensures.size
     c.rows_bytes-speed.ensures.size (slides_are c) c.size.ensures.size c.frequency_bytes.ensures.bytes
 
 pub returns-clause-length : goal.returns-clause-length
 returns-clause-length c =
     kinds_add_up c.args.packed.now _ _ c.code_length.ensures c.patterns_bytes-patterns.ensures.size
-    (ap length c.as_slice.ensures.items) c.unread_size.ensures.size c.rows_bytes-wave.ensures.size
+    (ap length c.as_slice.ensures.items) c.shared_size.ensures.size c.unread_size.ensures.size c.rows_bytes-wave.ensures.size
     c.rows_bytes-pulse.ensures.size c.rows_bytes-filter.ensures.size c.rows_bytes-speed.ensures.size
     c.size.ensures.size
     ∙ with_lists _ _ (slides_are c) c.frequency_bytes.ensures.bytes

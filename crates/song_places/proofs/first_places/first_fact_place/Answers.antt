@@ -13,7 +13,7 @@ returns-then-not-is_had-clause-first c =
 
 pub returns-clause-first : goal.returns-clause-first
 returns-clause-first c =
-    found_exactly c.args.song.now (NeedsFactAt c.args.song.now c.args.fact) (need_of_fact c.args.fact)
+    found_exactly c.args.song.now (NeedsFactAt c.args.song.now c.args.fact) (need_of_fact c.args.song.now c.args.fact)
     (λ place. (λ needed. needed, λ needed. needed))
     c.first_wanted.result c.first_wanted.ensures.found c.first_wanted.ensures.none
 
@@ -21,6 +21,6 @@ pub returns-clause-had : goal.returns-clause-had
 returns-clause-had c =
     let has = c.is_had.ensures.0 c.if-not-is_had.false in
     let at = has_fact_place c.args.song.now c.args.fact has in
-    found_if_had c.args.song.now (NeedsFactAt c.args.song.now c.args.fact) (need_of_fact c.args.fact)
+    found_if_had c.args.song.now (NeedsFactAt c.args.song.now c.args.fact) (need_of_fact c.args.song.now c.args.fact)
     (λ place. (λ needed. needed, λ needed. needed)) c.first_wanted.result has at.place at.needs
     c.first_wanted.ensures.none
