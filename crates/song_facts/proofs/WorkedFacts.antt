@@ -16,7 +16,7 @@ use Rattle.song_facts.specs.declared.facts.Fact.{Fact}
 use Rattle.song_facts.specs.declared.facts.Fact.TheVariants.{RowTone, RowSlide, RowOnce, FirstMask, Legato, NoHardRestart}
 use Rattle.song_facts.specs.declared.facts.Fact.TheVariants.{WaveDelay, GateNote, NoteVibrato, VibratoDelay, NotePulse, NoteFilter}
 use Rattle.song_facts.specs.declared.facts.Fact.TheVariants.{VoiceTempo, CommonTempo, FunkTurns, FunkChoice}
-use Rattle.song_facts.specs.declared.facts.Fact.TheVariants.{OwnTimer, OwnWave}
+use Rattle.song_facts.specs.declared.facts.Fact.TheVariants.{OwnTimer, OwnWave, Subtunes}
 use Rattle.song_facts.specs.Facts.{IsMask, is_among, no_facts, HasSuchRow, HasSuchInstrument, HasSuchPair, HasFact}
 use Rattle.song_facts.specs.WorkedFacts.{RowsAreTold, InstrumentsAreTold, SongsAreTold, SetsAreTold, wave_of, two_of}
 
@@ -228,11 +228,14 @@ songs_are_told = record {
     other_used = second_used plucked _;
     differ = λ e. omega (arith, e);
   };
+  subtunes = omega arith;
   not_played = λ has. no_such_row _ refl _ has;
   not_named = λ has. plain (such_first _ refl IsMask has);
   not_reached = λ has. none_reached _ refl refl has.p has.reached;
   timer_not_named = λ has. no_pair _ refl _ (λ differ. differ refl) has;
   wave_not_named = λ has. no_pair _ refl _ (λ differ. differ refl) has;
+  one_subtune = λ more. omega (arith, more);
+  one_playable = λ more. omega (arith, more);
 }
   where
     plain : ¬ IsMask plucked
@@ -261,6 +264,7 @@ fact_of_empty FunkTurns has = absurd (no_such_row empty_song refl _ has)
 fact_of_empty FunkChoice has = absurd (no_such_row empty_song refl _ has)
 fact_of_empty OwnTimer has = absurd (no_pair empty_song refl _ (λ differ. differ refl) has)
 fact_of_empty OwnWave has = absurd (no_pair empty_song refl _ (λ differ. differ refl) has)
+fact_of_empty Subtunes has = absurd (omega (arith, has))
 
 other : (fact : Fact) → ¬ (fact ≡ FirstMask) → ¬ HasFact empty_song fact
 other fact not has = not (fact_of_empty fact has)
@@ -288,6 +292,7 @@ empty_has FunkTurns = (λ on. absurd cc, λ has. absurd (other FunkTurns (λ e. 
 empty_has FunkChoice = (λ on. absurd cc, λ has. absurd (other FunkChoice (λ e. cc) has))
 empty_has OwnTimer = (λ on. absurd cc, λ has. absurd (other OwnTimer (λ e. cc) has))
 empty_has OwnWave = (λ on. absurd cc, λ has. absurd (other OwnWave (λ e. cc) has))
+empty_has Subtunes = (λ on. absurd cc, λ has. absurd (other Subtunes (λ e. cc) has))
 
 pub sets_are_told : SetsAreTold
 sets_are_told = record {

@@ -1,12 +1,13 @@
--- Facts of a song: what of all that it uses has a kind that a player may do without where there is none, and in what two
--- of its instruments differ. This is this project's profile of the GoatTracker 2 readme's rows, instruments and wave table.
-use Rattle.std.specs.Prelude.{◌≡◌, ◌≢◌, ℕ, ◌%◌, ◌<◌, ◌≤◌, ◌⊎◌, ◌↔◌, Bool, true, false, bit_and}
+-- Facts of a song: what of all that it uses has a kind that a player may do without where there is none, in what two of
+-- its instruments differ, and whether it has several subtunes. This is this project's profile of the GoatTracker 2
+-- readme's rows, instruments, wave table and subtunes.
+use Rattle.std.specs.Prelude.{◌≡◌, ◌≢◌, ℕ, ◌%◌, ◌<◌, ◌≤◌, ◌⊎◌, ◌↔◌, Bool, true, false, bit_and, length}
 use Rattle.song_model.specs.declared.rows.Row.{Row}
 use Rattle.song_model.specs.declared.instruments.Instrument.{Instrument}
 use Rattle.song_model.specs.declared.tables.TableRow.{TableRow}
 use Rattle.song_model.specs.declared.tables.TableName.TheVariants.{Wave}
 use Rattle.song_model.specs.declared.songs.Song.{Song}
-use Rattle.song_model.specs.LookUp.{table_row, instrument_at}
+use Rattle.song_model.specs.LookUp.{table_row, instrument_at, playable_subtunes}
 use Rattle.play_model.specs.Used.{IsUsedRow, IsUsedInstrument}
 use Rattle.play_model.specs.Reached.{IsReached}
 use Rattle.song_facts.specs.declared.facts.Fact.{Fact}
@@ -14,7 +15,7 @@ use Rattle.song_facts.specs.declared.facts.Facts.{Facts}
 use Rattle.song_facts.specs.declared.facts.Fact.TheVariants.{RowTone, RowSlide, RowOnce, FirstMask, Legato, NoHardRestart}
 use Rattle.song_facts.specs.declared.facts.Fact.TheVariants.{WaveDelay, GateNote, NoteVibrato, VibratoDelay, NotePulse, NoteFilter}
 use Rattle.song_facts.specs.declared.facts.Fact.TheVariants.{VoiceTempo, CommonTempo, FunkTurns, FunkChoice}
-use Rattle.song_facts.specs.declared.facts.Fact.TheVariants.{OwnTimer, OwnWave}
+use Rattle.song_facts.specs.declared.facts.Fact.TheVariants.{OwnTimer, OwnWave, Subtunes}
 
 -- the number of a fact
 abbrev pub number_of : Fact → ℕ
@@ -36,6 +37,7 @@ number_of FunkTurns = 14
 number_of FunkChoice = 15
 number_of OwnTimer = 16
 number_of OwnWave = 17
+number_of Subtunes = 18
 
 -- ---- rows of patterns
 
@@ -140,6 +142,7 @@ IsOfRow FunkTurns = IsFunkTurns
 IsOfRow FunkChoice = IsFunkChoice
 IsOfRow OwnTimer = λ row. ⊥
 IsOfRow OwnWave = λ row. ⊥
+IsOfRow Subtunes = λ row. ⊥
 
 -- an instrument
 abbrev pub IsOfInstrument : Fact → Instrument → Type 0
@@ -161,6 +164,7 @@ IsOfInstrument FunkTurns = λ i. ⊥
 IsOfInstrument FunkChoice = λ i. ⊥
 IsOfInstrument OwnTimer = λ i. ⊥
 IsOfInstrument OwnWave = λ i. ⊥
+IsOfInstrument Subtunes = λ i. ⊥
 
 -- two instruments
 abbrev pub IsOfPair : Fact → Instrument → Instrument → Type 0
@@ -182,6 +186,7 @@ IsOfPair FunkTurns = λ one other. ⊥
 IsOfPair FunkChoice = λ one other. ⊥
 IsOfPair OwnTimer = DifferInTimer
 IsOfPair OwnWave = DifferInWave
+IsOfPair Subtunes = λ one other. ⊥
 
 -- a row of the wave table
 abbrev pub IsOfWaveRow : Fact → TableRow → Type 0
@@ -203,6 +208,7 @@ IsOfWaveRow FunkTurns = λ row. ⊥
 IsOfWaveRow FunkChoice = λ row. ⊥
 IsOfWaveRow OwnTimer = λ row. ⊥
 IsOfWaveRow OwnWave = λ row. ⊥
+IsOfWaveRow Subtunes = λ row. ⊥
 
 -- ---- songs
 
@@ -232,6 +238,10 @@ pub record HasSuchWaveRow (song : Song) (IsSuch : TableRow → Type 0) : Type 0 
   pub reached : IsReached song Wave p
   pub is_such : IsSuch (table_row song Wave p)
 
+-- two subtunes, or more, can be played: none of their orderlists is empty
+abbrev pub HasSubtunes : Song → Type 0
+HasSubtunes song = 1 < length (playable_subtunes song)
+
 -- the song has the fact exactly where this holds
 abbrev pub HasFact : Song → Fact → Type 0
 HasFact song RowTone = HasSuchRow song IsTone
@@ -252,6 +262,7 @@ HasFact song FunkTurns = HasSuchRow song IsFunkTurns
 HasFact song FunkChoice = HasSuchRow song IsFunkChoice
 HasFact song OwnTimer = HasSuchPair song DifferInTimer
 HasFact song OwnWave = HasSuchPair song DifferInWave
+HasFact song Subtunes = HasSubtunes song
 
 -- whether a fact is among these
 abbrev pub is_among : Facts → Fact → Bool
@@ -273,6 +284,7 @@ is_among facts FunkTurns = facts.funk_turns
 is_among facts FunkChoice = facts.funk_choice
 is_among facts OwnTimer = facts.own_timer
 is_among facts OwnWave = facts.own_wave
+is_among facts Subtunes = facts.subtunes
 
 -- these are the song's facts: those that it has, and no others
 pub record AreFacts (song : Song) (facts : Facts) : Type 0 where
@@ -303,6 +315,7 @@ no_facts = record {
   funk_choice = false;
   own_timer = false;
   own_wave = false;
+  subtunes = false;
 }
 
 -- of one that has all
@@ -326,4 +339,5 @@ all_facts = record {
   funk_choice = true;
   own_timer = true;
   own_wave = true;
+  subtunes = true;
 }

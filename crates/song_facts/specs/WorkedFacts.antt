@@ -1,13 +1,14 @@
 -- Facts that are worked by hand, with what each refuses.
-use Rattle.std.specs.Prelude.{ℕ, true, [], ◌∷◌}
+use Rattle.std.specs.Prelude.{ℕ, true, List, [], ◌∷◌}
+use Rattle.song_model.specs.declared.orders.Subtune.{Subtune}
 use Rattle.song_model.specs.declared.songs.Song.{Song}
 use Rattle.song_model.specs.Silence.{empty_song}
 use Rattle.song_model.specs.declared.instruments.Instrument.{Instrument}
-use Rattle.play_model.specs.WorkedSongs.{row, sides, plucked, one_note, with_rows, with_instrument}
+use Rattle.play_model.specs.WorkedSongs.{subtune, row, sides, plucked, one_note, with_rows, with_instrument}
 use Rattle.song_facts.specs.declared.facts.Fact.TheVariants.{RowTone, RowSlide, RowOnce, FirstMask, Legato, NoHardRestart}
 use Rattle.song_facts.specs.declared.facts.Fact.TheVariants.{WaveDelay, GateNote, NoteVibrato, VibratoDelay, NotePulse, NoteFilter}
 use Rattle.song_facts.specs.declared.facts.Fact.TheVariants.{VoiceTempo, CommonTempo, FunkTurns, FunkChoice}
-use Rattle.song_facts.specs.declared.facts.Fact.TheVariants.{OwnTimer, OwnWave}
+use Rattle.song_facts.specs.declared.facts.Fact.TheVariants.{OwnTimer, OwnWave, Subtunes}
 use Rattle.song_facts.specs.Facts.{IsTone, IsSlide, IsOnce, IsGateNote, IsMask, IsLegato, KeepsEnvelope, IsDelay}
 use Rattle.song_facts.specs.Facts.{HasVibrato, HasVibratoDelay, HasPulse, HasFilter, DifferInTimer, DifferInWave}
 use Rattle.song_facts.specs.Facts.{IsVoiceTempo, IsCommonTempo, IsFunkTurns, IsFunkChoice}
@@ -82,8 +83,13 @@ wave_of left = record one_note { wave = sides left 0 ∷ sides 0xFF 0 ∷ [] }
 abbrev pub two_of : Instrument → Instrument → Song
 two_of one other = record (with_rows (row 0x90 2 0 0 ∷ []) one_note) { instruments = one ∷ other ∷ [] }
 
+-- the song of one note with its subtune and these behind it
+abbrev pub subtunes_of : List Subtune → Song
+subtunes_of others = record one_note { subtunes = subtune (0 ∷ []) (1 ∷ []) (1 ∷ []) ∷ others }
+
 -- A song has a fact where something that it uses is such. A pattern that no orderlist names, an instrument that no row
--- names and a row of the wave table that no program comes to give it none.
+-- names and a row of the wave table that no program comes to give it none. Nor does a subtune that can't be played, for
+-- one of its orderlists is empty.
 pub record SongsAreTold : Type 0 where
   pub tone : HasFact (song_of 0x90 3) RowTone
   pub slide : HasFact (song_of 0x90 4) RowSlide
@@ -103,11 +109,14 @@ pub record SongsAreTold : Type 0 where
   pub choice : HasFact (song_of 0x90 0xE) FunkChoice
   pub timers : HasFact (two_of plucked (record plucked { gate_timer = 3 })) OwnTimer
   pub waves : HasFact (two_of plucked (record plucked { first_wave = 0x41 })) OwnWave
+  pub subtunes : HasFact (subtunes_of (subtune (1 ∷ []) (0 ∷ []) (1 ∷ []) ∷ [])) Subtunes
   pub not_played : ¬ HasFact (record empty_song { patterns = (row 0xBE 0 3 0 ∷ []) ∷ [] }) GateNote
   pub not_named : ¬ HasFact (record empty_song { instruments = plucked ∷ record plucked { first_wave = 0 } ∷ [] }) FirstMask
   pub not_reached : ¬ HasFact (record empty_song { wave = sides 0x0F 0 ∷ [] }) WaveDelay
   pub timer_not_named : ¬ HasFact (record empty_song { instruments = plucked ∷ record plucked { gate_timer = 3 } ∷ [] }) OwnTimer
   pub wave_not_named : ¬ HasFact (record empty_song { instruments = plucked ∷ record plucked { first_wave = 0 } ∷ [] }) OwnWave
+  pub one_subtune : ¬ HasFact (subtunes_of []) Subtunes
+  pub one_playable : ¬ HasFact (subtunes_of (subtune (1 ∷ []) (0 ∷ []) [] ∷ [])) Subtunes
 
 -- A song that uses nothing begins with an instrument that isn't stored, whose first waveform is 0: that one fact is its
 -- own, and it has neither none, nor another, nor one more. A song adds a fact to another where that hasn't it.

@@ -5,7 +5,8 @@ ghost use Rattle.std.specs.Prelude.{◌≡◌, ◌↔◌, IsTrue};
 use song_model::{Instrument, Row, TableRow};
 
 /// What a song has beside its features, of all that it uses: rows of its patterns, its instruments and the rows of its
-/// wave table. The player leaves out what it does for a fact where a song hasn't it.
+/// wave table; and whether it has several subtunes. The player leaves out what it does for a fact where a song hasn't
+/// it.
 #[derive(Clone, Copy, Debug, PartialEq, Eq)]
 pub enum Fact {
     /// A row has command 3, which slides to its note.
@@ -45,12 +46,14 @@ pub enum Fact {
     OwnTimer,
     /// Two instruments differ in their first waveforms.
     OwnWave,
+    /// There are two subtunes, or more, that can be played.
+    Subtunes,
 }
 
 impl Fact {
     ghost use Rattle.song_facts.specs.Facts.{number_of, IsOfRow, IsOfInstrument, IsOfPair, IsOfWaveRow};
 
-    /// The fact's number, 0 to 17.
+    /// The fact's number, 0 to 18.
     pub fn number(self) -> u8
         ensures { result ≡ number_of self }
     {
@@ -149,6 +152,8 @@ pub struct Facts {
     pub own_timer: bool,
     /// [`Fact::OwnWave`].
     pub own_wave: bool,
+    /// [`Fact::Subtunes`].
+    pub subtunes: bool,
 }
 
 impl Facts {
@@ -177,6 +182,7 @@ impl Facts {
             Fact::FunkChoice => self.funk_choice,
             Fact::OwnTimer => self.own_timer,
             Fact::OwnWave => self.own_wave,
+            Fact::Subtunes => self.subtunes,
         }
     }
 }

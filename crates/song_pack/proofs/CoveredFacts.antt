@@ -1,23 +1,25 @@
 -- A song under new numbers has no fact that the song that it was made of hasn't.
-use Rattle.std.proofs.Common.{◌≡◌, ◌≢◌, ℕ, ◌%◌, ◌<◌, ◌≤◌, ◌⊎◌, refl, sym, ◌∙◌, ap, subst}
+use Rattle.std.proofs.Common.{◌≡◌, ◌≢◌, ℕ, ◌%◌, ◌<◌, ◌≤◌, ◌⊎◌, length, refl, sym, ◌∙◌, ap, subst}
 use Rattle.std.specs.Prelude.{bit_and}
+use Rattle.std.proofs.lemmas.List.{length-map}
 use Rattle.song_model.specs.declared.rows.Row.{Row}
 use Rattle.song_model.specs.declared.instruments.Instrument.{Instrument}
 use Rattle.song_model.specs.declared.tables.TableRow.{TableRow}
 use Rattle.song_model.specs.declared.tables.TableName.{TableName}
 use Rattle.song_model.specs.declared.tables.TableName.TheVariants.{Wave, Pulse, Filter, Speed}
 use Rattle.song_model.specs.declared.songs.Song.{Song}
-use Rattle.song_model.specs.LookUp.{table_row, instrument_at}
+use Rattle.song_model.specs.LookUp.{table_row, instrument_at, playable_subtunes}
 use Rattle.song_model.specs.Pointers.{instrument_pointer, command_table}
 use Rattle.play_model.specs.Used.{IsUsedInstrument}
 use Rattle.same_frames.specs.Maps.{Maps, moved_row, moved_pointer, IsRowFor, IsInstrumentFor}
 use Rattle.song_facts.specs.declared.facts.Fact.TheVariants.{RowTone, RowSlide, RowOnce, FirstMask, Legato, NoHardRestart}
 use Rattle.song_facts.specs.declared.facts.Fact.TheVariants.{WaveDelay, GateNote, NoteVibrato, VibratoDelay, NotePulse, NoteFilter}
 use Rattle.song_facts.specs.declared.facts.Fact.TheVariants.{VoiceTempo, CommonTempo, FunkTurns, FunkChoice}
-use Rattle.song_facts.specs.declared.facts.Fact.TheVariants.{OwnTimer, OwnWave}
+use Rattle.song_facts.specs.declared.facts.Fact.TheVariants.{OwnTimer, OwnWave, Subtunes}
 use Rattle.song_facts.specs.Facts.{IsTone, IsSlide, IsOnce, IsGateNote, IsMask, IsLegato, KeepsEnvelope}
 use Rattle.song_facts.specs.Facts.{HasVibratoDelay, timer_of, IsVoiceTempo, IsCommonTempo, IsFunkTurns, IsFunkChoice}
 use Rattle.song_facts.specs.Facts.{HasSuchRow, HasSuchInstrument, HasSuchPair, HasSuchWaveRow, AddsNoFact}
+use Rattle.same_frames.specs.OrderLaws.{moved_subtune}
 use Rattle.same_frames.proofs.Laws.{old_some}
 use Rattle.song_pack.proofs.UsedParts.{IsMoved, under, used_row_from, instrument_from, pointer_moved, reached_from}
 
@@ -145,6 +147,10 @@ module _ (maps : Maps) where
           is_such = subst (λ (row : TableRow). IsSuch row.left) is has.is_such;
         }
 
+    -- as many subtunes can be played
+    as_many_playable : length (playable_subtunes other) ≡ length (playable_subtunes song)
+    as_many_playable = ap length m.subtunes ∙ length-map (playable_subtunes song) (moved_subtune maps)
+
     -- ---- facts
 
     pub covered : AddsNoFact song other
@@ -167,3 +173,4 @@ module _ (maps : Maps) where
     covered FunkChoice has = row_covered IsFunkChoice (command_keeps (λ c. c ≡ 0xE)) has
     covered OwnTimer has = pair_covered timer_of (λ n. gate_timer_keeps (λ t. t % 64 ≡ n)) has
     covered OwnWave has = pair_covered (λ i. i.first_wave) (λ n. first_wave_keeps (λ w. w ≡ n)) has
+    covered Subtunes has = subst (λ (n : ℕ). 1 < n) as_many_playable has

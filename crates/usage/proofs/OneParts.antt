@@ -17,7 +17,7 @@ use Rattle.song_facts.specs.declared.facts.Facts.{Facts}
 use Rattle.song_facts.specs.declared.facts.Fact.TheVariants.{RowTone, RowSlide, RowOnce, FirstMask, Legato, NoHardRestart}
 use Rattle.song_facts.specs.declared.facts.Fact.TheVariants.{WaveDelay, GateNote, NoteVibrato, VibratoDelay, NotePulse, NoteFilter}
 use Rattle.song_facts.specs.declared.facts.Fact.TheVariants.{VoiceTempo, CommonTempo, FunkTurns, FunkChoice}
-use Rattle.song_facts.specs.declared.facts.Fact.TheVariants.{OwnTimer, OwnWave}
+use Rattle.song_facts.specs.declared.facts.Fact.TheVariants.{OwnTimer, OwnWave, Subtunes}
 use Rattle.song_facts.specs.Facts.{is_among, AreFacts}
 use Rattle.usage.specs.declared.features.TheConstants.{FEATURES}
 use Rattle.usage.specs.Marks.{IsMarked, count_of, AreMarks}
@@ -122,6 +122,7 @@ facts_with has = record {
   funk_choice = has FunkChoice;
   own_timer = has OwnTimer;
   own_wave = has OwnWave;
+  subtunes = has Subtunes;
 }
 
 -- each is had in both or in neither
@@ -154,6 +155,7 @@ facts_of has f same =
       same FunkChoice,
       same OwnTimer,
       same OwnWave,
+      same Subtunes,
     ) refl
 
 pub one_facts : (song : Song) (a b : Facts) → AreFacts song a → AreFacts song b → a ≡ b

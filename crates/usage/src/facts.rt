@@ -6,7 +6,8 @@ ghost use Rattle.play_model.specs.Used.{IsUsedInstrument};
 ghost use Rattle.play_model.specs.Reached.{IsReached};
 ghost use Rattle.song_facts.specs.Facts.{IsTone, IsSlide, IsOnce, IsGateNote, IsDelay, IsOfInstrument, IsOfPair};
 ghost use Rattle.song_facts.specs.Facts.{IsVoiceTempo, IsCommonTempo, IsFunkTurns, IsFunkChoice};
-ghost use Rattle.song_facts.specs.Facts.{HasSuchRow, HasSuchInstrument, HasSuchPair, HasSuchWaveRow, AreFacts};
+ghost use Rattle.song_facts.specs.Facts.{HasSuchRow, HasSuchInstrument, HasSuchPair, HasSuchWaveRow, HasSubtunes};
+ghost use Rattle.song_facts.specs.Facts.{AreFacts};
 ghost use Rattle.usage.specs.Marks.{AreMarks};
 ghost use Rattle.usage.specs.Found.{IsFoundOf};
 
@@ -57,6 +58,13 @@ fn has_wave_delay(song: &Song, wave: &ByteMarks) -> bool
         }
     }
     false
+}
+
+/// Whether two subtunes, or more, can be played.
+fn has_subtunes(song: &Song) -> bool
+    ensures { IsTrue result ↔ HasSubtunes song.now }
+{
+    song.playable_count() > 1
 }
 
 impl Found {
@@ -176,6 +184,7 @@ impl Found {
             funk_choice: self.has_funk_choice(song),
             own_timer: has_pair(song, used, Fact::OwnTimer),
             own_wave: has_pair(song, used, Fact::OwnWave),
+            subtunes: has_subtunes(song),
         }
     }
 }
