@@ -40,6 +40,7 @@ sets_are_worked = record {
   funk_choice = refl;
   own_timer = refl;
   own_wave = refl;
+  subtunes = refl;
   effects = refl;
   pulse = refl;
   twice = refl;

@@ -12,7 +12,8 @@ pub use Rattle.player_memory.proofs.Starting.{beginnings_play}
 pub use Rattle.player_memory.proofs.Pieces.{InOnePiece, in_one_piece, off_piece, list_behind}
 -- only the nine fields of instruments are read, those that aren't are bytes of the packed song, and at most two bytes
 -- stand for all instruments
-pub use Rattle.player_memory.proofs.ReadFields.{read_below, unread_few, unread_within, shared_few}
+pub use Rattle.player_memory.proofs.ReadFields.{read_below, unread_few, unlisted_few, subtunes_are_large, left_out_within}
+pub use Rattle.player_memory.proofs.ReadFields.{shared_few}
 -- a layout like the one that is worked has a room, and places outside of it
 pub use Rattle.player_memory.proofs.WorkedRooms.{IsLaid, IsOpen, AreLaid, off_variables, room_in, uses_in, behind_slides}
 -- the entries of a pattern that is worked

@@ -1,11 +1,14 @@
 -- Which fields of instruments are read.
 use Rattle.std.proofs.Common.{◌≡◌, ℕ, ◌+◌, ◌*◌, ◌<◌, ◌≤◌, Bool, true, false, length, if◌then◌else◌, ◌||◌, refl, inl, inr}
+use Rattle.std.proofs.Common.{List, [], ◌∷◌}
 use Rattle.std.proofs.Common.{arith}
 use Rattle.std.specs.Prelude.{sum_by}
+use Rattle.std.proofs.lemmas.List.Sums.{sum_by-cons}
 use Rattle.std.proofs.lemmas.Bool.{cases_lt, both_ways, ne_eqb, le-ltb}
+use Rattle.packed_form.specs.declared.packed_songs.PackedSubtune.{PackedSubtune}
 use Rattle.packed_form.specs.declared.packed_songs.PackedSong.{PackedSong}
 use Rattle.packed_form.specs.Sizes.{list_size, subtune_size, packed_song_size}
-use Rattle.player_memory.specs.SongLists.{is_read, unread_size, shared_size}
+use Rattle.player_memory.specs.SongLists.{is_read, unread_size, unlisted_size, shared_size}
 
 -- only the nine fields are read
 pub read_below : (packed : PackedSong) (field : ℕ) → is_read packed field ≡ true → field < 9
@@ -39,16 +42,34 @@ unread_few packed =
     at_most true = omega arith
     at_most false = omega arith
 
--- so they are bytes of the packed song
-pub unread_within : (packed : PackedSong) → unread_size packed ≤ packed_song_size packed
-unread_within packed =
-    within (sum_by subtune_size packed.subtunes) (sum_by list_size packed.patterns) (length packed.instruments)
-    (length packed.wave) (length packed.pulse) (length packed.filter) (length packed.speed) (unread_size packed)
-    (unread_few packed)
+-- the addresses of orderlists are six bytes of each subtune
+pub subtunes_are_large : (subtunes : List PackedSubtune) → 6 * length subtunes ≤ sum_by subtune_size subtunes
+subtunes_are_large [] = omega arith
+subtunes_are_large (subtune ∷ others) =
+    let fewer = subtunes_are_large others in
+    let sum = sum_by-cons subtune_size subtune others in
+    omega (arith, fewer, sum)
+
+pub unlisted_few : (packed : PackedSong) → unlisted_size packed ≤ 6 * length packed.subtunes
+unlisted_few packed = at_most packed.facts.subtunes
   where
-    within : (orders texts instruments wave pulse filter speed unread : ℕ) → unread ≤ 6 * instruments →
-        unread ≤ orders + texts + 9 * instruments + 2 * wave + 2 * pulse + 2 * filter + 2 * speed
-    within orders texts instruments wave pulse filter speed unread few = omega (arith, few)
+    at_most : (z : Bool) → (if z then 0 else 6 * length packed.subtunes) ≤ 6 * length packed.subtunes
+    at_most true = omega arith
+    at_most false = omega arith
+
+-- so these and those are bytes of the packed song
+pub left_out_within : (packed : PackedSong) → unread_size packed + unlisted_size packed ≤ packed_song_size packed
+left_out_within packed =
+    within (length packed.subtunes) (sum_by subtune_size packed.subtunes) (sum_by list_size packed.patterns)
+    (length packed.instruments) (length packed.wave) (length packed.pulse) (length packed.filter)
+    (length packed.speed) (unread_size packed) (unlisted_size packed) (unread_few packed) (unlisted_few packed)
+    (subtunes_are_large packed.subtunes)
+  where
+    within : (subtunes orders texts instruments wave pulse filter speed unread unlisted : ℕ) →
+        unread ≤ 6 * instruments → unlisted ≤ 6 * subtunes → 6 * subtunes ≤ orders →
+        unread + unlisted ≤ orders + texts + 9 * instruments + 2 * wave + 2 * pulse + 2 * filter + 2 * speed
+    within subtunes orders texts instruments wave pulse filter speed unread unlisted few none large =
+        omega (arith, few, none, large)
 
 -- at most two bytes stand for all instruments
 pub shared_few : (packed : PackedSong) → shared_size packed ≤ 2

@@ -16,7 +16,7 @@ use Rattle.player_memory.specs.declared.variables.Kept.TheVariants.{Always, Wher
 use Rattle.player_memory.specs.declared.variables.CommonByte.{CommonByte}
 use Rattle.player_memory.specs.declared.variables.VoiceByte.{VoiceByte}
 use Rattle.player_memory.specs.declared.variables.VoiceByte.TheVariants.{PulseHigh, NewParam}
-use Rattle.player_memory.specs.declared.variables.TheConstants.{VOICE_BYTES, COMMON_BYTES, SONG_BYTES}
+use Rattle.player_memory.specs.declared.variables.TheConstants.{VOICE_BYTES, COMMON_BYTES, FIRST_SONG_BYTES}
 use Rattle.player_memory.specs.Variables.{HoldsWhere, stands, voice_byte, IsVoiceByte, VoiceRowsStand, common_byte}
 use Rattle.player_memory.specs.Variables.{CommonRowsStand}
 use Rattle.player_memory.specs.Playing.{own_at, shared_at, IsPlaying}
@@ -135,7 +135,7 @@ rows_begin holds (row ∷ rows) tempo own e =
 
 -- a voice begins where a test says so, and its other bytes are so
 pub voice_begins : (holds : ℕ → Bool) (tempo address : ℕ) (own : ℕ → ℕ) →
-    are_begun holds VOICE_BYTES tempo own ≡ true → SongRowsBegin SONG_BYTES address own →
+    are_begun holds VOICE_BYTES tempo own ≡ true → SongRowsBegin FIRST_SONG_BYTES address own →
     VoiceBegins holds tempo address own
 voice_begins holds tempo address own e song =
     record { state = rows_begin holds VOICE_BYTES tempo own e; song = song }
@@ -164,7 +164,7 @@ unfolding place_of
 in_song layout look packed order tempo address own begins some =
     AtEntry begins.song.0
     (NotWalked begins.song.1.0 refl
-    (GoesOn first_place first refl begins.song.1.1.1.1.1.1.0 begins.song.1.1.1.1.1.1.1.0 begins.song.1.1.1.1.1.1.1.1.0))
+    (GoesOn first_place first refl begins.song.1.1.1.1.0 begins.song.1.1.1.1.1.0 begins.song.1.1.1.1.1.1.0))
   where
     first : restarted order first_place ≡ first_place
     first =
@@ -182,8 +182,8 @@ pub beginnings_play : BeginningsPlay
 beginnings_play layout o look packed order address label voice at begins few is some = record {
   plays = plays layout o address at begins voice few;
   has_order = let song = (begins.voices voice few).song in record {
-    low_is = song.1.1.1.1.0 ∙ ap (λ n. n % 256) is;
-    high_is = song.1.1.1.1.1.0 ∙ ap (λ n. n / 256) is;
+    low_is = song.1.1.0 ∙ ap (λ n. n % 256) is;
+    high_is = song.1.1.1.0 ∙ ap (λ n. n / 256) is;
   };
   song = rw (voices_alike o voice few)
       (in_song layout look packed order _ (address voice) (own_at layout at voice) (begins.voices voice few) some);

@@ -8,7 +8,7 @@ use Rattle.song_facts.specs.declared.facts.Fact.TheVariants.{NoHardRestart}
 use Rattle.song_facts.specs.declared.facts.Fact.TheVariants.{WaveDelay, GateNote, NoteVibrato, VibratoDelay, NotePulse}
 use Rattle.song_facts.specs.declared.facts.Fact.TheVariants.{NoteFilter}
 use Rattle.song_facts.specs.declared.facts.Fact.TheVariants.{VoiceTempo, CommonTempo, FunkTurns, FunkChoice}
-use Rattle.song_facts.specs.declared.facts.Fact.TheVariants.{OwnTimer, OwnWave}
+use Rattle.song_facts.specs.declared.facts.Fact.TheVariants.{OwnTimer, OwnWave, Subtunes}
 use Rattle.song_facts.specs.Facts.{HasFact, no_facts}
 use Rattle.player_memory.specs.declared.conditions.TheConstants.{GATE_NOTE}
 use Rattle.player_memory.specs.FactLines.{KeepsMarked, KeepsMarkedAlone}
@@ -62,6 +62,7 @@ conditions_are_facts FunkTurns = refl
 conditions_are_facts FunkChoice = refl
 conditions_are_facts OwnTimer = refl
 conditions_are_facts OwnWave = refl
+conditions_are_facts Subtunes = refl
 
 none_kept : (layout : Layout) → KeepsMarked layout no_facts
 none_kept layout RowTone on = absurd cc
@@ -82,6 +83,7 @@ none_kept layout FunkTurns on = absurd cc
 none_kept layout FunkChoice on = absurd cc
 none_kept layout OwnTimer on = absurd cc
 none_kept layout OwnWave on = absurd cc
+none_kept layout Subtunes on = absurd cc
 
 gate_kept : (layout : Layout) → layout.holds GATE_NOTE ≡ true →
     KeepsMarked layout (record no_facts { gate_note = true })
@@ -103,6 +105,7 @@ gate_kept layout holds FunkTurns on = absurd cc
 gate_kept layout holds FunkChoice on = absurd cc
 gate_kept layout holds OwnTimer on = absurd cc
 gate_kept layout holds OwnWave on = absurd cc
+gate_kept layout holds Subtunes on = absurd cc
 
 -- where at most the condition of a keyoff holds
 none_alone : (layout : Layout) → KeepsMarkedAlone (with_holding layout []) (record no_facts { gate_note = true })
@@ -124,6 +127,7 @@ none_alone layout FunkTurns on = absurd cc
 none_alone layout FunkChoice on = absurd cc
 none_alone layout OwnTimer on = absurd cc
 none_alone layout OwnWave on = absurd cc
+none_alone layout Subtunes on = absurd cc
 
 gate_alone : (layout : Layout) →
     KeepsMarkedAlone (with_holding layout (GATE_NOTE ∷ [])) (record no_facts { gate_note = true })
@@ -145,6 +149,7 @@ gate_alone layout FunkTurns on = absurd cc
 gate_alone layout FunkChoice on = absurd cc
 gate_alone layout OwnTimer on = absurd cc
 gate_alone layout OwnWave on = absurd cc
+gate_alone layout Subtunes on = absurd cc
 
 -- the song of one note has a keyoff
 key_off : HasFact one_note GateNote
@@ -186,6 +191,7 @@ fact_lines_are_worked layout = record {
   delay_more = λ alone. (let on = alone VibratoDelay refl in absurd cc);
   timer_more = λ alone. (let on = alone OwnTimer refl in absurd cc);
   wave_more = λ alone. (let on = alone OwnWave refl in absurd cc);
+  subtunes_more = λ alone. (let on = alone Subtunes refl in absurd cc);
   held_gate = λ on. inl refl;
   held_envelope = λ on. inr refl;
   not_held = λ on. absurd cc;

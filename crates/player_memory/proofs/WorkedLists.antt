@@ -37,7 +37,12 @@ song_lists_are_worked = record {
     one_timer = refl;
     own_timer = refl;
     gate_kept = refl;
+    listed = refl;
+    unlisted = refl;
+    of_one = refl;
     in_front = refl;
+    in_front_of_one = refl;
+    in_front_unlisted = refl;
     in_front_of_fewer = refl;
   };
   gaps = record { none = refl; last = refl; beyond = refl; far = refl; fewer = refl };
@@ -51,6 +56,9 @@ song_lists_are_worked = record {
   no_pulses = λ e. absurd (cc);
   no_one_wave = λ e. absurd (cc);
   no_one_timer = λ e. absurd (cc);
+  no_lows = λ e. absurd (cc);
+  no_highs = λ e. absurd (cc);
+  own_order = (omega arith, omega arith);
   one_wave = one_wave;
   no_periods = λ e. absurd (cc);
   speed_row_none = record { from = omega arith; to = omega arith };

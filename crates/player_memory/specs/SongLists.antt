@@ -124,13 +124,17 @@ unread packed field = if is_read packed field then 0 else length packed.instrume
 abbrev pub unread_size : PackedSong → ℕ
 unread_size packed = sum_by (unread packed) (range_with_len 0 9)
 
+-- the addresses of the orderlists, which stand nowhere where there is one subtune alone: its voices begin with them
+abbrev pub unlisted_size : PackedSong → ℕ
+unlisted_size packed = if packed.facts.subtunes then 0 else 6 * length packed.subtunes
+
 -- those that stand alone for all instruments
 abbrev pub shared_size : PackedSong → ℕ
 shared_size packed = (if packed.facts.own_timer then 0 else 1) + (if packed.facts.own_wave then 0 else 1)
 
 -- what stands of the packed song
 abbrev pub bytes_read : PackedSong → ℕ
-bytes_read packed = packed_song_size packed + shared_size packed - unread_size packed
+bytes_read packed = packed_song_size packed + shared_size packed - (unread_size packed + unlisted_size packed)
 
 -- two zeros and that stand in front of the frequencies, and as many zeros as there is a gap
 abbrev pub bytes_in_front : PackedSong → ℕ
@@ -179,13 +183,15 @@ pub record HasNumber (packed : PackedSong) (list : SongList) (number : ℕ) : Ty
   pub to : number < first_number packed list + list_length packed list
 
 -- there is a list of each field of instruments that is read, a timer and a first waveform for all instruments where no
--- two differ in theirs, and three orderlists of each subtune; periods are a list of their own where the code for
--- calculated speeds is kept
+-- two differ in theirs, the addresses of orderlists where there are several subtunes, and three orderlists of each;
+-- periods are a list of their own where the code for calculated speeds is kept
 abbrev pub IsSongList : Layout → PackedSong → SongList → Type 0
 IsSongList layout packed Periods = layout.holds NOTE_DEPENDENT ≡ true
 IsSongList layout packed (Instruments field) = is_read packed field ≡ true
 IsSongList layout packed OneTimer = packed.facts.own_timer ≡ false
 IsSongList layout packed OneWave = packed.facts.own_wave ≡ false
+IsSongList layout packed OrderLows = packed.facts.subtunes ≡ true
+IsSongList layout packed OrderHighs = packed.facts.subtunes ≡ true
 IsSongList layout packed (OrderBytes subtune channel) = (subtune < length packed.subtunes) × (channel < 3)
 IsSongList layout packed (PatternBytes pattern) = pattern < length packed.patterns
 IsSongList layout packed list = Unit {0}

@@ -11,7 +11,7 @@ use Rattle.player_memory.specs.declared.labels.TheConstants.{ORDER_LOW, ORDER_HI
 use Rattle.player_memory.specs.declared.variables.Kept.{Kept}
 use Rattle.player_memory.specs.declared.variables.VoiceByte.{VoiceByte}
 use Rattle.player_memory.specs.declared.variables.CommonByte.{CommonByte}
-use Rattle.player_memory.specs.declared.variables.TheConstants.{VOICE_BYTES, COMMON_BYTES, SONG_BYTES}
+use Rattle.player_memory.specs.declared.variables.TheConstants.{VOICE_BYTES, COMMON_BYTES, FIRST_SONG_BYTES}
 use Rattle.player_memory.specs.Variables.{stands, voice_byte, common_byte}
 use Rattle.player_memory.specs.Playing.{own_at, shared_at, IsPlaying}
 use Rattle.player_memory.specs.Fetching.{HasOrder, SongStands}
@@ -25,7 +25,8 @@ VoiceRowsBegin holds (row ∷ rows) tempo own =
     (stands holds row.2 ≡ true → own row.0 ≡ voice_byte row.1 start_voice tempo)
     × VoiceRowsBegin holds rows tempo own
 
--- the bytes that say where it is in its song are 0, but for those of its orderlist's address
+-- Of the bytes that say where it is in its song those of the pattern's place may be any: it has none yet. The others
+-- are 0, but for those of its orderlist's address.
 abbrev pub song_byte : ℕ → ℕ → ℕ
 song_byte address label =
     if label == ORDER_LOW then address % 256 else if label == ORDER_HIGH then address / 256 else 0
@@ -37,7 +38,7 @@ SongRowsBegin (label ∷ labels) address own =
 
 pub record VoiceBegins (holds : ℕ → Bool) (tempo address : ℕ) (own : ℕ → ℕ) : Type 0 where
   pub state : VoiceRowsBegin holds VOICE_BYTES tempo own
-  pub song : SongRowsBegin SONG_BYTES address own
+  pub song : SongRowsBegin FIRST_SONG_BYTES address own
 
 -- ---- what no voice owns
 

@@ -24,6 +24,7 @@ use Rattle.player_memory.specs.declared.conditions.TheConstants.{ROW_COMMAND, LE
 use Rattle.player_memory.specs.declared.conditions.TheConstants.{GATE_NOTE, NOTE_PULSE, NOTE_FILTER, NOTE_VIBRATO}
 use Rattle.player_memory.specs.declared.conditions.TheConstants.{VIBRATO_DELAY}
 use Rattle.player_memory.specs.declared.conditions.TheConstants.{ROW_TONE, FILTER_USED, HELD_NOTE, OWN_TIMER, OWN_WAVE}
+use Rattle.player_memory.specs.declared.conditions.TheConstants.{SUBTUNES}
 use Rattle.player_memory.specs.FactLines.{fact_condition, KeepsMarked, KeepsMarkedAlone, KeepsFacts, KeepsShared}
 use Rattle.player_memory.specs.FactLines.{HoldsAlone}
 
@@ -77,6 +78,7 @@ pub record FactLinesAreWorked (layout : Layout) : Type 0 where
   pub delay_more : ¬ KeepsMarkedAlone (with_holding layout (VIBRATO_DELAY ∷ [])) no_facts
   pub timer_more : ¬ KeepsMarkedAlone (with_holding layout (OWN_TIMER ∷ [])) no_facts
   pub wave_more : ¬ KeepsMarkedAlone (with_holding layout (OWN_WAVE ∷ [])) no_facts
+  pub subtunes_more : ¬ KeepsMarkedAlone (with_holding layout (SUBTUNES ∷ [])) no_facts
   -- those of what is held are kept with the lines of one that holds it, and with no others
   pub held_gate : HoldsAlone (with_holding layout (HELD_NOTE ∷ LEGATO ∷ []))
   pub held_envelope : HoldsAlone (with_holding layout (HELD_NOTE ∷ NO_HARD_RESTART ∷ []))

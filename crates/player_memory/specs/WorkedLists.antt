@@ -23,7 +23,7 @@ use Rattle.player_memory.specs.declared.labels.TheConstants.{NEXT_FILTER_LEFTS, 
 use Rattle.player_memory.specs.SongLists.{SongList, FrequencyLows, FrequencyHighs, Lefts, Rights, Periods, Instruments}
 use Rattle.player_memory.specs.SongLists.{OneTimer, OneWave, OrderLows, OrderHighs, PatternLows, PatternHighs}
 use Rattle.player_memory.specs.SongLists.{OrderBytes, PatternBytes}
-use Rattle.player_memory.specs.SongLists.{is_read, unread_size, shared_size, bytes_in_front, gap_size}
+use Rattle.player_memory.specs.SongLists.{is_read, unread_size, unlisted_size, shared_size, bytes_in_front, gap_size}
 use Rattle.player_memory.specs.SongLists.{first_number, list_length, list_byte, list_label, IsSongList, HasNumber}
 use Rattle.player_memory.specs.WorkedForms.{sides}
 use Rattle.player_memory.specs.WorkedMemory.{at_1000}
@@ -52,7 +52,7 @@ second_subtune = record {
 }
 
 -- Each of the fields that need a fact has one in them. The instruments have one gateoff timer, but for the bit that
--- keeps the envelope, and two first waveforms.
+-- keeps the envelope, and two first waveforms. There are two subtunes.
 abbrev pub its_facts : Facts
 its_facts = record no_facts {
   no_hard_restart = true;
@@ -63,6 +63,7 @@ its_facts = record no_facts {
   note_pulse = true;
   note_filter = true;
   own_wave = true;
+  subtunes = true;
 }
 
 -- A note and a keyoff with the first of them, and a note with the second; with this speed table. Let it ask for the
@@ -213,6 +214,13 @@ plain_layout = record list_layout {
 abbrev pub with_facts : Facts → PackedSong
 with_facts facts = record worked_song { facts = facts }
 
+-- with its first subtune alone
+abbrev pub one_subtune : PackedSong
+one_subtune = record worked_song {
+  subtunes = first_subtune ∷ [];
+  facts = record its_facts { subtunes = false };
+}
+
 -- whether each of the nine is, and a tenth, which there isn't; the bytes of the others, of two instruments; and how many
 -- stand for both
 abbrev pub reads_of : PackedSong → List Bool × ℕ × ℕ
@@ -241,9 +249,15 @@ pub record ReadFieldsAreWorked : Type 0 where
       ≡ (true ∷ true ∷ true ∷ true ∷ true ∷ true ∷ true ∷ true ∷ true ∷ false ∷ [], 0, 0)
   pub gate_kept : reads_of (with_facts (record its_facts { no_hard_restart = false; legato = true }))
       ≡ (true ∷ true ∷ true ∷ true ∷ true ∷ true ∷ true ∷ true ∷ true ∷ false ∷ [], 0, 1)
+  -- the addresses of six orderlists stand nowhere where the song hasn't several subtunes, and of three those of three
+  pub listed : unlisted_size worked_song ≡ 0
+  pub unlisted : unlisted_size (with_facts (record its_facts { subtunes = false })) ≡ 12
+  pub of_one : unlisted_size one_subtune ≡ 6
   -- in front of the frequencies there are as many fewer bytes, and those that stand for both
   pub in_front : bytes_in_front worked_song ≡ 93
-  pub in_front_of_fewer : bytes_in_front (with_facts no_facts) ≡ 82
+  pub in_front_of_one : bytes_in_front (record one_subtune { facts = its_facts }) ≡ 74
+  pub in_front_unlisted : bytes_in_front one_subtune ≡ 68
+  pub in_front_of_fewer : bytes_in_front (with_facts no_facts) ≡ 70
 
 -- ---- gaps in front of the frequencies
 
@@ -262,8 +276,8 @@ pub record GapsAreWorked : Type 0 where
   pub last : gap_size (asking 93 3 (omega arith)) ≡ 0
   pub beyond : gap_size (asking 94 3 (omega arith)) ≡ 1
   pub far : gap_size (asking 128 1 (omega arith)) ≡ 35
-  -- with 82, where six fields of instruments aren't read
-  pub fewer : gap_size (record (asking 92 3 (omega arith)) { facts = no_facts }) ≡ 10
+  -- with 70, where six fields of instruments aren't read, and the orderlists' addresses stand nowhere
+  pub fewer : gap_size (record (asking 92 3 (omega arith)) { facts = no_facts }) ≡ 22
 
 -- ---- as worked
 
@@ -283,8 +297,8 @@ pub record SongListsAreWorked : Type 0 where
   pub tables : AreAsWorked list_layout worked_song table_pieces
   pub instruments : AreAsWorked list_layout worked_song instrument_pieces
   pub orders : AreAsWorked list_layout worked_song order_pieces
-  -- none of these is one: a field, a subtune, a channel or a pattern too many, a field that isn't read, or periods that
-  -- aren't kept
+  -- none of these is one: a field, a subtune, a channel or a pattern too many, a field that isn't read, the orderlists'
+  -- addresses where there is one subtune, or periods that aren't kept
   pub no_field : ¬ IsSongList list_layout worked_song (Instruments 9)
   pub no_subtune : ¬ IsSongList list_layout worked_song (OrderBytes 2 0)
   pub no_channel : ¬ IsSongList list_layout worked_song (OrderBytes 0 3)
@@ -292,6 +306,9 @@ pub record SongListsAreWorked : Type 0 where
   pub no_pulses : ¬ IsSongList list_layout (with_facts no_facts) (Instruments 3)
   pub no_one_wave : ¬ IsSongList list_layout worked_song OneWave
   pub no_one_timer : ¬ IsSongList list_layout (with_facts (record its_facts { own_timer = true })) OneTimer
+  pub no_lows : ¬ IsSongList list_layout one_subtune OrderLows
+  pub no_highs : ¬ IsSongList list_layout one_subtune OrderHighs
+  pub own_order : IsSongList list_layout one_subtune (OrderBytes 0 2)
   -- a first waveform for both instruments, where they have one
   pub one_wave : IsAsWorked list_layout (with_facts (record its_facts { own_wave = false }))
       (piece OneWave ONE_WAVE 0x1161 0 (0x09 ∷ []))

@@ -8,6 +8,7 @@ use Rattle.player_memory.specs.declared.labels.TheConstants.{REST, OFFSET, ORDER
 use Rattle.player_memory.specs.declared.labels.TheConstants.{TRANSPOSE, REPEAT, TICK, INSTRUMENT, NEW_PARAM, VIB_DELAY}
 use Rattle.player_memory.specs.declared.labels.TheConstants.{GATE, PULSE_HIGH, TEMPO, FILTER_POINTER, VOLUME, LENT}
 use Rattle.player_memory.specs.declared.labels.TheConstants.{KEPT_COMMAND, KEPT_PARAM, FUNK_ONE, FUNK_TWO, ORDERS}
+use Rattle.player_memory.specs.declared.labels.TheConstants.{PATTERN_LOW, PATTERN_HIGH}
 use Rattle.player_memory.specs.WorkedMemory.{at_1000, nowhere}
 use Rattle.player_memory.specs.WorkedPlays.{with_variable}
 use Rattle.player_memory.specs.WorkedFetching.{its_order, its_packed}
@@ -62,6 +63,9 @@ pub record BeginningsAreWorked : Type 0 where
   pub place : ¬ BeginsSo (with_variable (ORDER_PLACE + 14) 1 begun)
   pub transpose : ¬ BeginsSo (with_variable TRANSPOSE 1 begun)
   pub repeat : ¬ BeginsSo (with_variable (REPEAT + 7) 1 begun)
+  -- but the pattern's place may be any
+  pub pattern_low : BeginsSo (with_variable (PATTERN_LOW + 7) 1 begun)
+  pub pattern_high : BeginsSo (with_variable (PATTERN_HIGH + 14) 1 begun)
   -- what no voice owns
   pub filter : ¬ BeginsSo (with_variable FILTER_POINTER 1 begun)
   pub volume : ¬ BeginsSo (with_variable VOLUME 0 begun)

@@ -5,11 +5,14 @@
 //! group a voice has 6, and the label that is left is one of all voices. Which variables have a byte, and where these
 //! stand, says `variable_places`.
 
-/// Rests that are left behind the row that was fetched last.
-pub const REST: u16 = 0;
-/// Where the next entry stands in the packed pattern, counted from 1; 0 says that the pattern is through, and that the
-/// orderlist hasn't been walked for the next one.
-pub const OFFSET: u16 = 1;
+/// The mask `$FE` or `$FF` that goes over the waveform.
+pub const GATE: u16 = 0;
+/// The frames of a row, less one; 0 and 1 choose one of two funk tempos.
+pub const TEMPO: u16 = 1;
+/// The second voice's, where it is set for all voices.
+pub const TEMPO_TWO: u16 = 8;
+/// The third voice's.
+pub const TEMPO_THREE: u16 = 15;
 /// The low byte of the place before the packed pattern.
 pub const PATTERN_LOW: u16 = 2;
 /// The high byte of that place.
@@ -18,18 +21,19 @@ pub const PATTERN_HIGH: u16 = 3;
 pub const ORDER_LOW: u16 = 4;
 /// The high byte of the orderlist's address.
 pub const ORDER_HIGH: u16 = 5;
-/// The place in the orderlist behind the pattern's number.
-pub const ORDER_PLACE: u16 = 6;
-/// The transpose, as a byte.
-pub const TRANSPOSE: u16 = 21;
-/// How often the pattern is still to be played behind the play that is on.
-pub const REPEAT: u16 = 22;
+/// The instrument.
+pub const INSTRUMENT: u16 = 6;
+/// Rests that are left behind the row that was fetched last.
+pub const REST: u16 = 21;
+/// Where the next entry stands in the packed pattern, counted from 1; 0 says that the pattern is through, and that the
+/// orderlist hasn't been walked for the next one.
+pub const OFFSET: u16 = 22;
 /// Frames until the row is done.
 pub const TICK: u16 = 23;
 /// How many frames before it the next row is fetched.
 pub const GATE_TIMER: u16 = 24;
-/// The instrument.
-pub const INSTRUMENT: u16 = 25;
+/// The place in the orderlist behind the pattern's number.
+pub const ORDER_PLACE: u16 = 25;
 /// The note that sounds, mod 128.
 pub const NOTE: u16 = 26;
 /// The note that waits, 0 for none.
@@ -52,8 +56,8 @@ pub const VIB_TIME: u16 = 48;
 pub const VIB_DELAY: u16 = 63;
 /// The waveform.
 pub const WAVE: u16 = 64;
-/// The mask `$FE` or `$FF` that goes over it.
-pub const GATE: u16 = 65;
+/// The transpose, as a byte.
+pub const TRANSPOSE: u16 = 65;
 /// The low byte of the frequency.
 pub const FREQ_LOW: u16 = 66;
 /// The high byte of the frequency.
@@ -72,12 +76,8 @@ pub const PULSE_TIME: u16 = 86;
 pub const PULSE_LOW: u16 = 87;
 /// The high byte of the pulse width: its low four bits count.
 pub const PULSE_HIGH: u16 = 88;
-/// The frames of a row, less one; 0 and 1 choose one of two funk tempos.
-pub const TEMPO: u16 = 89;
-/// The second voice's, where it is set for all voices.
-pub const TEMPO_TWO: u16 = 96;
-/// The third voice's.
-pub const TEMPO_THREE: u16 = 103;
+/// How often the pattern is still to be played behind the play that is on.
+pub const REPEAT: u16 = 89;
 
 /// The row of the filter program, 0 for none.
 pub const FILTER_POINTER: u16 = 90;
@@ -105,8 +105,9 @@ pub const FUNK_TWO: u16 = 112;
 
 /// How many variables there are.
 pub const VARIABLES: u16 = 113;
-/// The first of them, where all are cleared.
-pub const FIRST_VARIABLE: u16 = 0;
+/// The first of those that the beginning of a subtune clears. Of those before it, which have a byte in each player, it
+/// sets some, and leaves the pattern's address as it is, and with one subtune alone the orderlist's.
+pub const FIRST_CLEARED: u16 = REST;
 
 /// The low bytes of the frequencies, at the byte that number 0 has or would have.
 pub const FREQUENCY_LOWS: u16 = 128;

@@ -16,5 +16,5 @@ pub mod variables;
 
 pub use listed::{
     DELAY_BYTE, FIRST_WAVE_BYTE, TIMER_BYTE, bytes_read, gap_size, is_read, shared_size,
-    unread_size,
+    unlisted_size, unread_size,
 };

@@ -1,7 +1,8 @@
 //! Which lists of a packed song there are.
 
 ghost use Rattle.std.specs.Prelude.{◌≡◌, ◌≤◌, ◌<◌, ◌*◌, length};
-ghost use Rattle.player_memory.specs.SongLists.{is_read, unread, unread_size, shared_size, bytes_read, gap_size};
+ghost use Rattle.player_memory.specs.SongLists.{is_read, unread, unread_size, unlisted_size, shared_size};
+ghost use Rattle.player_memory.specs.SongLists.{bytes_read, gap_size};
 
 use packed_form::PackedSong;
 
@@ -69,6 +70,19 @@ pub fn unread_size(packed: &PackedSong) -> u32
         + unread(packed, FIRST_WAVE_BYTE)
 }
 
+/// The bytes of the orderlists' addresses, where they are in no list: one subtune alone has them in its variables.
+pub fn unlisted_size(packed: &PackedSong) -> u32
+    ensures size { result ≡ unlisted_size packed.now }
+    ensures within { result ≤ 6 * length packed.now.subtunes }
+    ensures most { result ≤ 192 }
+{
+    if packed.facts.subtunes {
+        0
+    } else {
+        6 * packed.subtunes.as_slice().len() as u32
+    }
+}
+
 /// The bytes that stand alone for all instruments: a gateoff timer where no two that the song uses differ in it, and a
 /// first waveform where no two differ in that.
 pub fn shared_size(packed: &PackedSong) -> u32
@@ -79,12 +93,12 @@ pub fn shared_size(packed: &PackedSong) -> u32
 }
 
 /// The bytes of a packed song that stand in an image: those of the fields of instruments that no line reads are left
-/// out, and those that stand alone for all instruments come in.
+/// out, and the addresses of the orderlists of one subtune alone; those that stand alone for all instruments come in.
 pub fn bytes_read(packed: &PackedSong) -> u32
     ensures size { result ≡ bytes_read packed.now }
     ensures most { result ≤ 81041 }
 {
-    packed.size() + shared_size(packed) - unread_size(packed)
+    packed.size() + shared_size(packed) - unread_size(packed) - unlisted_size(packed)
 }
 
 /// How many zeros stand in front of the frequencies: as many as there are numbers below the first one that the song

@@ -174,21 +174,34 @@ pub const SONG_BYTES: [u16; 9] = [
     REPEAT,
 ];
 
+/// Those of them with which each voice begins a subtune. It has no pattern yet, so what the bytes of a pattern's place
+/// hold then says nothing.
+pub const FIRST_SONG_BYTES: [u16; 7] = [
+    REST,
+    OFFSET,
+    ORDER_LOW,
+    ORDER_HIGH,
+    ORDER_PLACE,
+    TRANSPOSE,
+    REPEAT,
+];
+
 /// The labels of a voice's bytes, each with conditions: where a line that names it is kept, one of them holds. One
-/// without conditions has a byte in each player.
+/// without conditions has a byte in each player. The first seven are such: they are the bytes that the beginning of a
+/// subtune doesn't clear.
 pub const VOICE_VARIABLES: [(u16, &[u8]); 34] = [
-    (REST, &[]),
-    (OFFSET, &[]),
+    (GATE, &[]),
+    (TEMPO, &[]),
     (PATTERN_LOW, &[]),
     (PATTERN_HIGH, &[]),
     (ORDER_LOW, &[]),
     (ORDER_HIGH, &[]),
-    (ORDER_PLACE, &[]),
-    (TRANSPOSE, &[TRANSPOSES]),
-    (REPEAT, &[REPEATS]),
+    (INSTRUMENT, &[]),
+    (REST, &[]),
+    (OFFSET, &[]),
     (TICK, &[]),
     (GATE_TIMER, &[OWN_TIMER]),
-    (INSTRUMENT, &[]),
+    (ORDER_PLACE, &[]),
     (NOTE, &[]),
     (NEW_NOTE, &[]),
     (NEW_COMMAND, &[ROW_COMMAND, ROW_TONE]),
@@ -200,7 +213,7 @@ pub const VOICE_VARIABLES: [(u16, &[u8]); 34] = [
     (VIB_TIME, &[SWINGS]),
     (VIB_DELAY, &[INSTRUMENT_VIBRATO, VIBRATO_DELAY]),
     (WAVE, &[]),
-    (GATE, &[]),
+    (TRANSPOSE, &[TRANSPOSES]),
     (FREQ_LOW, &[]),
     (FREQ_HIGH, &[]),
     (LAST_NOTE, &[NOTE_DEPENDENT]),
@@ -210,7 +223,7 @@ pub const VOICE_VARIABLES: [(u16, &[u8]); 34] = [
     (PULSE_TIME, &[PULSE_TABLE, NOTE_PULSE, SET_PULSE_POINTER]),
     (PULSE_LOW, &[PULSE_TABLE]),
     (PULSE_HIGH, &[PULSE_TABLE]),
-    (TEMPO, &[]),
+    (REPEAT, &[REPEATS]),
 ];
 
 /// The labels of the bytes of all voices, each with such conditions.

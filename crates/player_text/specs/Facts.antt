@@ -29,7 +29,7 @@ pub record HasBytes (start : Start) : Type 0 where
 pub record AreBlocks : Type 0 where
   pub filter : is_block filter_lines ≡ true
   pub voice : is_block voice_lines ≡ true
-  pub init : (start : Start) (variables : ℕ) → HasBytes start → variables < 256 → is_block (init_lines start variables) ≡ true
+  pub init : (start : Start) (cleared : ℕ) → HasBytes start → cleared < 256 → is_block (init_lines start cleared) ≡ true
 
 pub record HaveLines : Type 0 where
   pub filter : has_lines nothing_around filter_tree ≡ true
@@ -84,4 +84,4 @@ pub record Measures (lines : List Line) (count bare full heavy : ℕ) : Type 0 w
 pub record AreMeasured : Type 0 where
   pub filter : Measures filter_lines 66 16 102 40
   pub voice : Measures voice_lines 985 306 1336 4931
-  pub init : (start : Start) (variables : ℕ) → Measures (init_lines start variables) 57 64 90 487
+  pub init : (start : Start) (cleared : ℕ) → Measures (init_lines start cleared) 62 46 92 425

@@ -27,14 +27,14 @@ voice_lines = flat_map (λ step. flat_map (λ piece. piece.now) step.now) VOICE.
 abbrev pub voice_tree : Tree
 voice_tree = tree_of voice_lines
 
--- ---- init, with the numbers with which a subtune begins, and how many bytes the variables take
+-- ---- init, with the numbers with which a subtune begins, and how many bytes of the variables are cleared
 
 abbrev load : ℕ → Line
 load number = With Lda (Number number)
 
--- so many bytes stand behind the first of the variables
+-- so many bytes stand behind the first of those
 abbrev pub load_last : ℕ → Line
-load_last variables = With Ldx (Number (variables - 1))
+load_last cleared = With Ldx (Number (cleared - 1))
 
 -- the timer, where there are several play calls in a picture; the registers and the variables; the first funk tempo,
 -- where a command takes turns; and the three voices
@@ -43,7 +43,7 @@ timer_lines start =
     When TIMED ∷ load start.timer_low ∷ (TIMER_LOW_SET.now ++ load start.timer_high ∷ (TIMER_HIGH_SET.now ++ End ∷ []))
 
 abbrev clear_lines : ℕ → List Line
-clear_lines variables = REGISTERS_CLEARED.now ++ load_last variables ∷ VARIABLES_CLEARED.now
+clear_lines cleared = REGISTERS_CLEARED.now ++ load_last cleared ∷ VARIABLES_CLEARED.now
 
 abbrev funk_lines : Start → List Line
 funk_lines start = When FUNK_TEMPO ∷ load start.funk ∷ (FUNK_STARTED.now ++ End ∷ [])
@@ -53,9 +53,9 @@ start_lines start =
     VOICES_STARTED.now ++ Loop 3 ∷ (VOICE_STARTED.now ++ load start.tempo ∷ (TEMPO_STARTED.now ++ End ∷ []))
 
 abbrev pub init_lines : Start → ℕ → List Line
-init_lines start variables =
+init_lines start cleared =
     SUBTUNE_TAKEN.now
-    ++ (timer_lines start ++ (clear_lines variables ++ (funk_lines start ++ start_lines start)))
+    ++ (timer_lines start ++ (clear_lines cleared ++ (funk_lines start ++ start_lines start)))
 
 abbrev pub init_tree : Start → ℕ → Tree
-init_tree start variables = tree_of (init_lines start variables)
+init_tree start cleared = tree_of (init_lines start cleared)

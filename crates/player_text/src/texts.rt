@@ -60,27 +60,27 @@ fn load(number: u8) -> Line
     Line::With(Mnemonic::Lda, Operand::Number(number))
 }
 
-/// Takes the number of bytes that stand behind the first of the variables into X.
-fn load_last(variables: u8) -> Line
-    requires { 1 ≤ variables }
-    ensures { result ≡ load_last variables }
+/// Takes the number of bytes that stand behind the first of the cleared ones into X.
+fn load_last(cleared: u8) -> Line
+    requires { 1 ≤ cleared }
+    ensures { result ≡ load_last cleared }
 {
-    Line::With(Mnemonic::Ldx, Operand::Number(variables - 1))
+    Line::With(Mnemonic::Ldx, Operand::Number(cleared - 1))
 }
 
-/// The lines that begin a subtune, where the variables take so many bytes, 1 to 113. A is the subtune's number, counted
-/// from 0, and no other register is rested on.
+/// The lines that begin a subtune, where it clears so many bytes of the variables, 1 to 92. A is the subtune's number,
+/// counted from 0, where there are several, and no other register is rested on.
 ///
 /// # Errors
 ///
 /// Out of memory.
-pub fn init(alloc: Global, start: Start, variables: u8) -> Result<Items<Line>, NoMemory>
-    requires { 1 ≤ variables }
-    ensures { IfOk result (λ lines. lines ≡ init_lines start variables) }
+pub fn init(alloc: Global, start: Start, cleared: u8) -> Result<Items<Line>, NoMemory>
+    requires { 1 ≤ cleared }
+    ensures { IfOk result (λ lines. lines ≡ init_lines start cleared) }
 {
     let timer_low = &[load(start.timer_low)];
     let timer_high = &[load(start.timer_high)];
-    let last_variable = &[load_last(variables)];
+    let last_cleared = &[load_last(cleared)];
     let funk = &[load(start.funk)];
     let each_voice = &[Line::Loop(3)];
     let tempo = &[load(start.tempo)];
@@ -94,7 +94,7 @@ pub fn init(alloc: Global, start: Start, variables: u8) -> Result<Items<Line>, N
             put TIMER_HIGH_SET;
         }
         put REGISTERS_CLEARED;
-        put last_variable;
+        put last_cleared;
         put VARIABLES_CLEARED;
         when FUNK_TEMPO { // Stores FUNK_ONE, which nothing reads without it; keeps Y.
             put funk;
