@@ -10,6 +10,7 @@ mod Owners
 mod Within
 mod Rising
 mod Apart
+mod First
 mod Voices
 -- Which labels lines name.
 mod Covered

@@ -1,13 +1,13 @@
--- The bytes of the second and the third voice stand 7 and 14 behind those of the first, the second funk tempo behind
--- the first, and the first variable in front.
+-- The bytes of the second and the third voice stand 7 and 14 behind those of the first, and the second funk tempo behind
+-- the first.
 use Rattle.std.proofs.Common.{◌≡◌, ℕ, ◌+◌, ◌*◌, ◌<◌, Bool, true, false, ◌&&◌, ◌||◌, not, nat_eq, nat_lt, refl, sym, ap}
 use Rattle.std.proofs.Common.{◌∙◌, ap₂, arith}
 use Rattle.std.proofs.lemmas.Bool.{and_parts, not-true, eqb-true, ltb-true, agree_below, agree_below_at}
 use Rattle.narrow_runs.specs.Named.{stands_under}
 use Rattle.player_memory.specs.Labels.{is_own, is_shared}
-use Rattle.variable_places.specs.Places.{voice_rows, asked_in, voice_of, base_of, asks, has_byte, position_in}
+use Rattle.variable_places.specs.Places.{voice_rows, asked_in, voice_of, base_of, has_byte, position_in}
 use Rattle.variable_places.specs.Places.{voice_labels, own_place, place_of}
-use Rattle.variable_places.specs.PlaceLaws.{VoicesAreAlike, VoicesAreInStep, FunkIsTogether, FirstIsFirst}
+use Rattle.variable_places.specs.PlaceLaws.{VoicesAreAlike, VoicesAreInStep, FunkIsTogether}
 use Rattle.variable_places.proofs.Owners.{own_asks, own_stands, shared_stands, second_too}
 
 -- ---- whose byte a label is, tested for each of the first voice's
@@ -76,7 +76,7 @@ voices_are_in_step holds label voice own three there =
     ∙ ap (λ place. place + 7 * voice)
     (sym (own_is holds label 0 label (of_voice label 0 label own (omega arith) (omega arith)) there)))
 
--- ---- the funk tempos, and the first variable
+-- ---- the funk tempos
 
 pub funk_is_together : FunkIsTogether
 funk_is_together holds = (
@@ -85,7 +85,3 @@ funk_is_together holds = (
       shared_stands holds 112 (second_too holds ∙ there) refl
       ∙ ap (λ place. place + 1) (sym (shared_stands holds 111 there refl)),
 )
-
-pub first_is_first : FirstIsFirst
-unfolding asks has_byte voice_rows voice_labels place_of
-first_is_first holds = (refl, refl)

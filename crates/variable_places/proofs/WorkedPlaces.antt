@@ -84,10 +84,11 @@ counts_are_worked = record {
 pub places_are_worked : PlacesAreWorked
 unfolding voice_rows shared_rows asks has_byte voice_labels other_labels free_places funk_place place_of variable_count
 places_are_worked = record {
-  tick = (refl, refl, refl);
+  uncleared = (refl, refl, refl, refl, refl);
+  tempos = (refl, refl, refl);
+  attack = (refl, refl, refl);
   repeat = (refl, refl);
   voices = (refl, refl);
-  tempos = (refl, refl, refl);
   timer = (refl, refl, refl);
   pulse = (refl, refl);
   volume = refl;

@@ -1,6 +1,6 @@
 -- What is so of the places of variables, whichever conditions hold. This is the project's own player.
 use Rattle.std.specs.Prelude.{◌≡◌, ℕ, ◌+◌, ◌*◌, ◌<◌, ◌≤◌, Bool, true}
-use Rattle.player_memory.specs.declared.labels.TheConstants.{VARIABLES, REST, FUNK_ONE, FUNK_TWO}
+use Rattle.player_memory.specs.declared.labels.TheConstants.{VARIABLES, FIRST_CLEARED, FUNK_ONE, FUNK_TWO}
 use Rattle.player_memory.specs.Labels.{is_own}
 use Rattle.player_text.specs.declared.texts.Start.{Start}
 use Rattle.player_text.specs.Texts.{filter_tree, voice_tree, init_tree}
@@ -50,9 +50,17 @@ FunkIsTogether =
     (has_byte holds FUNK_TWO ≡ has_byte holds FUNK_ONE)
     × (has_byte holds FUNK_ONE ≡ true → place_of holds FUNK_TWO ≡ place_of holds FUNK_ONE + 1)
 
--- the first byte is that of the first variable
-abbrev pub FirstIsFirst : Type 0
-FirstIsFirst = (holds : ℕ → Bool) → (has_byte holds REST ≡ true) × (place_of holds REST ≡ 0)
+-- the variables that aren't cleared have bytes in each player, the first ones, and so has the first that is cleared, the
+-- one behind them
+abbrev pub UnclearedAreFirst : Type 0
+UnclearedAreFirst =
+    (holds : ℕ → Bool) (label : ℕ) → label ≤ FIRST_CLEARED → (has_byte holds label ≡ true) × (place_of holds label ≡ label)
+
+-- the bytes of all others stand behind
+abbrev pub ClearedAreBehind : Type 0
+ClearedAreBehind =
+    (holds : ℕ → Bool) (label : ℕ) → FIRST_CLEARED ≤ label → label < VARIABLES → has_byte holds label ≡ true →
+    FIRST_CLEARED ≤ place_of holds label
 
 -- each label that a kept line names has a byte
 abbrev pub NamedHaveBytes : Type 0

@@ -6,7 +6,7 @@ use Rattle.player_memory.specs.declared.labels.TheConstants.{AD, VIB_DELAY, WAVE
 use Rattle.player_memory.specs.declared.labels.TheConstants.{TEMPO_TWO, TEMPO_THREE, FILTER_POINTER, FILTER_TIME}
 use Rattle.player_memory.specs.declared.labels.TheConstants.{FILTER_TYPE, FILTER_CONTROL, CUTOFF, VOLUME, LENT}
 use Rattle.player_memory.specs.declared.labels.TheConstants.{KEPT_COMMAND, KEPT_PARAM, FUNK_ONE, FUNK_TWO, VARIABLES}
-use Rattle.player_memory.specs.declared.labels.TheConstants.{WAVE_LEFTS, GATE_TIMER, INSTRUMENT}
+use Rattle.player_memory.specs.declared.labels.TheConstants.{WAVE_LEFTS, GATE_TIMER, INSTRUMENT, PATTERN_LOW, ORDER_HIGH, ORDER_PLACE}
 use Rattle.player_memory.specs.declared.conditions.TheConstants.{TRANSPOSES, REPEATS, PULSE_TABLE, FILTER_TABLE}
 use Rattle.player_memory.specs.declared.conditions.TheConstants.{SET_FILTER_CONTROL, SET_VOLUME, FUNK_TEMPO}
 use Rattle.player_memory.specs.declared.conditions.TheConstants.{FUNK_CHOICE, WAVE_COMMAND, SKIP_FIRST, ROW_TONE}
@@ -120,16 +120,20 @@ pub record CountsAreWorked : Type 0 where
   pub pulse_funk : variable_count (only (PULSE_TABLE ∷ FUNK_CHOICE ∷ [])) ≡ 81
 
 pub record PlacesAreWorked : Type 0 where
-  -- the voices' bytes close up: without transposes and repeats the tick is the eighth
-  pub tick : (place_of none_holds TICK ≡ 21) × (place_of (only (TRANSPOSES ∷ [])) TICK ≡ 22)
-      × (place_of (only (TRANSPOSES ∷ REPEATS ∷ [])) TICK ≡ 23)
-  pub repeat : (place_of (only (REPEATS ∷ [])) REPEAT ≡ 21) × (place_of each_holds REPEAT ≡ 22)
-  pub voices : (place_of none_holds (TICK + 7) ≡ 28) × (place_of none_holds (TICK + 14) ≡ 35)
-  pub tempos : (place_of none_holds TEMPO ≡ 46) × (place_of none_holds TEMPO_TWO ≡ 53)
-      × (place_of none_holds TEMPO_THREE ≡ 60)
-  pub timer : (place_of (only (OWN_TIMER ∷ [])) GATE_TIMER ≡ 22) × (place_of (only (OWN_TIMER ∷ [])) INSTRUMENT ≡ 23)
-      × (place_of none_holds INSTRUMENT ≡ 22)
-  pub pulse : (place_of (only (PULSE_TABLE ∷ [])) PULSE_LOW ≡ 48) × (place_of (only (PULSE_TABLE ∷ [])) TEMPO ≡ 64)
+  -- those that aren't cleared are the first seven of each voice, and the rests the first behind them
+  pub uncleared : (place_of none_holds PATTERN_LOW ≡ 2) × (place_of each_holds (ORDER_HIGH + 14) ≡ 19)
+      × (place_of none_holds (INSTRUMENT + 14) ≡ 20) × (place_of none_holds REST ≡ 21) × (place_of each_holds REST ≡ 21)
+  pub tempos : (place_of none_holds TEMPO ≡ 1) × (place_of none_holds TEMPO_TWO ≡ 8)
+      × (place_of none_holds TEMPO_THREE ≡ 15)
+  -- the voices' bytes close up: without gateoff timers and commands of rows the attack is the last of its group
+  pub attack : (place_of none_holds AD ≡ 27) × (place_of (only (OWN_TIMER ∷ [])) AD ≡ 42)
+      × (place_of (only (OWN_TIMER ∷ ROW_COMMAND ∷ [])) AD ≡ 44)
+  pub repeat : (place_of (only (REPEATS ∷ [])) REPEAT ≡ 47) × (place_of each_holds REPEAT ≡ 89)
+  pub voices : (place_of none_holds (TICK + 7) ≡ 30) × (place_of none_holds (TICK + 14) ≡ 37)
+  pub timer : (place_of (only (OWN_TIMER ∷ [])) GATE_TIMER ≡ 24) × (place_of (only (OWN_TIMER ∷ [])) ORDER_PLACE ≡ 25)
+      × (place_of none_holds ORDER_PLACE ≡ 24)
+  pub pulse : (place_of (only (PULSE_TABLE ∷ [])) PULSE_POINTER ≡ 47)
+      × (place_of (only (PULSE_TABLE ∷ [])) PULSE_LOW ≡ 63)
   -- those of all voices fill what is left of the last group, and the fifth stands behind it
   pub volume : place_of (only (SET_VOLUME ∷ [])) VOLUME ≡ 47
   pub third : place_of (only (SET_FILTER_CONTROL ∷ SET_VOLUME ∷ [])) VOLUME ≡ 54

@@ -2,7 +2,7 @@
 
 ghost use Rattle.variable_places.specs.PlaceLaws.{PlacesAreWithin, CountsAreFew, CountsRise, CountsAreNoFewer};
 ghost use Rattle.variable_places.specs.PlaceLaws.{PlacesAreApart, VoicesAreAlike, VoicesAreInStep, FunkIsTogether};
-ghost use Rattle.variable_places.specs.PlaceLaws.{FirstIsFirst, NamedHaveBytes};
+ghost use Rattle.variable_places.specs.PlaceLaws.{UnclearedAreFirst, ClearedAreBehind, NamedHaveBytes};
 ghost use Rattle.variable_places.specs.WorkedPlaces.{FieldsAreWorked, BytesAreWorked, CountsAreWorked, PlacesAreWorked};
 
 /// Whichever conditions hold, each variable's place is one of those that are counted, of which there are from 1 to 113,
@@ -22,13 +22,15 @@ pub fn counts_rise()
 {}
 
 /// The three voices have the same bytes, each 7 places behind that of the voice before it; of the funk tempos both have
-/// a byte, the second behind the first, or none; and the first variable has the first byte.
+/// a byte, the second behind the first, or none. Those that aren't cleared have the first bytes, and all others stand
+/// behind them.
 #[tactic(auto, using(crate::proofs::Voices::voices_are_alike, crate::proofs::Voices::voices_are_in_step))]
 pub fn places_are_in_step()
     ensures alike { VoicesAreAlike }
     ensures in_step { VoicesAreInStep }
     ensures funk { FunkIsTogether }
-    ensures first { FirstIsFirst }
+    ensures first { UnclearedAreFirst }
+    ensures behind { ClearedAreBehind }
 {}
 
 /// Each label that a line of the player names which is kept has a byte.
