@@ -102,7 +102,7 @@ fn entrance_run(
 ) -> Result<Option<Run>, Difference> {
     let plan = Plan {
         label: CODE,
-        stored: entrance.stored,
+        numbered: entrance.numbered.is_some(),
         pointer: setup.pointer,
         conditions: setup.conditions,
     };

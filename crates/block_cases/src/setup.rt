@@ -33,8 +33,8 @@ pub struct Setup {
 /// What an entrance has beside its block.
 #[derive(Drop)]
 pub struct Entrance {
-    /// The label of the byte into which A is stored.
-    pub stored: Option<u16>,
+    /// Whether its calls come with a number in A.
+    pub numbered: Option<()>,
     /// The block that is done for each voice.
     pub voices: Option<Vec<Line>>,
 }
@@ -196,10 +196,10 @@ impl Setup {
 }
 
 impl Entrance {
-    /// It stores no number, and has no voices.
+    /// Its calls come with no number, and it has no voices.
     pub fn new() -> Entrance {
         Entrance {
-            stored: None,
+            numbered: None,
             voices: None,
         }
     }
@@ -218,7 +218,7 @@ impl Entrance {
         reader: &mut Reader<'_>,
     ) -> Result<(), Difference> {
         match head {
-            b"stored" => once(&mut self.stored, reader.short()),
+            b"numbered" => once(&mut self.numbered, ()),
             b"voices" => once(&mut self.voices, reader.lines(alloc)),
             _ => read_line(alloc, head, setup, wants, reader),
         }

@@ -10,10 +10,10 @@ use Rattle.scopes.specs.Trees.{Tree}
 use Rattle.scopes.specs.Meaning.{Done, Stuck, Ran, each_one, and_then, ran}
 use Rattle.scope_lines.specs.Reach.{nothing_around, has_lines}
 use Rattle.scope_calls.specs.Entrances.{Entrance, voices_place, voice_has_lines}
-use Rattle.scope_calls.specs.Meaning.{cleared, stored_at, at_voice, called_from, returned, led, lead_steps, back}
+use Rattle.scope_calls.specs.Meaning.{cleared, at_voice, called_from, returned, back}
 use Rattle.scope_calls.specs.Meaning.{voice_called}
 use Rattle.scope_calls.specs.Meaning.{voice_last, voices_ran}
-use Rattle.narrow_runs.specs.Named.{names, stored_names, voice_names, entrance_names}
+use Rattle.narrow_runs.specs.Named.{names, voice_names, entrance_names}
 use Rattle.narrow_runs.specs.Narrow.{AgreesOn, IsNarrow, IsSameBut, CameTo, EntrancesAreNarrow}
 use Rattle.narrow_runs.proofs.Instructions.{put_alike}
 use Rattle.narrow_runs.proofs.Lines.{came_to, pays_narrow, then_narrow}
@@ -24,23 +24,6 @@ use Rattle.narrow_runs.proofs.Trees.{agrees_less, trees_are_narrow}
 cleared_alike : {more : ℕ → Bool} {desk first : Desk} → IsSameBut more desk first →
     IsSameBut more (cleared desk) (cleared first)
 cleared_alike same = record { cpu = ap {A = Cpu} (λ c. record c { d = false }) same.cpu; at = same.at }
-
-stored_alike : {more : ℕ → Bool} {desk first : Desk} (place place' : ℕ) → place' ≡ place → IsSameBut more desk first →
-    IsSameBut more (stored_at place desk) (stored_at place' first)
-stored_alike {more = more} {desk = desk} {first = first} place place' e same = record {
-  cpu = same.cpu;
-  at = λ q f.
-      put_alike more desk.at first.at place desk.cpu.a same.at q f
-      ∙ (ap (λ c. put first.at place c.a q) same.cpu ∙ ap (λ p. put first.at p first.cpu.a q) (sym e));
-}
-
-led_alike : {more : ℕ → Bool} {narrow wide : Layout} {desk first : Desk} (stored : Option ℕ) →
-    AgreesOn (stored_names stored) narrow wide → IsSameBut more desk first →
-    IsSameBut more (led narrow stored desk) (led wide stored first)
-led_alike None agrees same = cleared_alike same
-led_alike {narrow = narrow} {wide = wide} (Some label) agrees same =
-    stored_alike (narrow.address label) (wide.address label) (agrees.addresses label (eq-eqb label label refl))
-    (cleared_alike same)
 
 voice_alike : {more : ℕ → Bool} {desk first : Desk} (voice : ℕ) → IsSameBut more desk first →
     IsSameBut more (at_voice voice desk) (at_voice voice first)
@@ -152,16 +135,12 @@ voices_narrow {more = more} {other = other} narrow one two (Some block) place pl
 
 -- ---- all of it
 
--- what the whole names
+-- what the blocks name
 abbrev first_or_voices : (ℕ → Bool) → Entrance → ℕ → Bool
 first_or_voices holds e label = names holds e.first label || voice_names holds e.voice label
 
-abbrev behind_label : (ℕ → Bool) → Entrance → ℕ → Bool
-behind_label holds e label = stored_names e.stored label || first_or_voices holds e label
-
 record AgreesOnParts (e : Entrance) (narrow wide : Layout) : Type 0 where
   place : wide.address e.label + voices_place e ≡ narrow.address e.label + voices_place e
-  stored : AgreesOn (stored_names e.stored) narrow wide
   first : AgreesOn (names narrow.holds e.first) narrow wide
   voice : AgreesOn (voice_names narrow.holds e.voice) narrow wide
 
@@ -170,40 +149,29 @@ on_parts : (e : Entrance) (narrow wide : Layout) → AgreesOn (entrance_names na
 on_parts e narrow wide agrees = record {
   place = ap (λ n. n + voices_place e)
       (agrees.addresses e.label
-      (or_left (nat_eq e.label e.label) (behind_label narrow.holds e e.label) (eq-eqb e.label e.label refl)));
-  stored = agrees_less
-      (λ label f.
-      behind label
-      (or_left (stored_names e.stored label) (first_or_voices narrow.holds e label) f)) agrees;
+      (or_left (nat_eq e.label e.label) (first_or_voices narrow.holds e e.label) (eq-eqb e.label e.label refl)));
   first = agrees_less
       (λ label f.
-      behind label
-      (or_right (stored_names e.stored label) (first_or_voices narrow.holds e label)
-      (or_left (names narrow.holds e.first label) (voice_names narrow.holds e.voice label) f))) agrees;
+      behind label (or_left (names narrow.holds e.first label) (voice_names narrow.holds e.voice label) f)) agrees;
   voice = agrees_less
       (λ label f.
-      behind label
-      (or_right (stored_names e.stored label) (first_or_voices narrow.holds e label)
-      (or_right (names narrow.holds e.first label) (voice_names narrow.holds e.voice label) f))) agrees;
+      behind label (or_right (names narrow.holds e.first label) (voice_names narrow.holds e.voice label) f)) agrees;
 }
   where
-    behind : (label : ℕ) → behind_label narrow.holds e label ≡ true → entrance_names narrow.holds e label ≡ true
-    behind label f = or_right (nat_eq e.label label) (behind_label narrow.holds e label) f
+    behind : (label : ℕ) → first_or_voices narrow.holds e label ≡ true → entrance_names narrow.holds e label ≡ true
+    behind label f = or_right (nat_eq e.label label) (first_or_voices narrow.holds e label) f
 
 pub entrances_are_narrow : EntrancesAreNarrow
 entrances_are_narrow e narrow one two more other desk first second has agrees agrees' is same same' goes goes' =
-    pays_narrow (lead_steps e.stored) (lead_steps e.stored) (lead_steps e.stored) refl
-    (then_narrow (ran each_one narrow e.first (led narrow e.stored desk))
-    (ran each_one one e.first (led one e.stored first)) (ran each_one two e.first (led two e.stored second))
-    (rest narrow) (rest one) (rest two) goes goes'
+    pays_narrow 1 1 1 refl
+    (then_narrow (ran each_one narrow e.first (cleared desk)) (ran each_one one e.first (cleared first))
+    (ran each_one two e.first (cleared second)) (rest narrow) (rest one) (rest two) goes goes'
     (λ g g'.
-    trees_are_narrow nothing_around e.first narrow one two more other (led narrow e.stored desk)
-    (led one e.stored first) (led two e.stored second) lines.0 on_one.first on_two.first is
-    (led_alike e.stored on_one.stored same) (led_alike e.stored on_two.stored same') g g')
+    trees_are_narrow nothing_around e.first narrow one two more other (cleared desk) (cleared first) (cleared second)
+    lines.0 on_one.first on_two.first is (cleared_alike same) (cleared_alike same') g g')
     (λ s s' g g'.
-    after (ran each_one narrow e.first (led narrow e.stored desk)).desk
-    (ran each_one one e.first (led one e.stored first)).desk (ran each_one two e.first (led two e.stored second)).desk s
-    s' g g'))
+    after (ran each_one narrow e.first (cleared desk)).desk (ran each_one one e.first (cleared first)).desk
+    (ran each_one two e.first (cleared second)).desk s s' g g'))
   where
     lines : (has_lines nothing_around e.first ≡ true) × (voice_has_lines e.voice ≡ true)
     lines = and_parts (has_lines nothing_around e.first) (voice_has_lines e.voice) has

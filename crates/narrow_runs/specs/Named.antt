@@ -26,19 +26,14 @@ names holds (ChooseTree condition this other) label =
     if holds condition then names holds this label else names holds other label
 names holds tree label = false
 
--- an entrance names the label in front of it, that of the byte into which A is stored, and those of its blocks
-abbrev pub stored_names : Option ℕ → ℕ → Bool
-stored_names None label = false
-stored_names (Some stored) label = nat_eq stored label
-
+-- an entrance names the label in front of it, and those of its blocks
 abbrev pub voice_names : (ℕ → Bool) → Option Tree → ℕ → Bool
 voice_names holds None label = false
 voice_names holds (Some voice) label = names holds voice label
 
 abbrev pub entrance_names : (ℕ → Bool) → Entrance → ℕ → Bool
 entrance_names holds e label =
-    nat_eq e.label label || (stored_names e.stored label
-    || (names holds e.first label || voice_names holds e.voice label))
+    nat_eq e.label label || (names holds e.first label || voice_names holds e.voice label)
 
 -- ---- for any conditions
 

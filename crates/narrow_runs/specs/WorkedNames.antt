@@ -36,11 +36,11 @@ never condition = false
 abbrev pub always : ℕ → Bool
 always condition = true
 
--- labels 1 and 2 by what is in front of its blocks, and 3 and 4 by these
+-- label 1 by itself, and 3 and 4 by its blocks
 abbrev pub entrance_of : Tree → Tree → Entrance
 entrance_of first voice = record {
   label = 1;
-  stored = Some 2;
+  numbered = false;
   first = first;
   voice = Some voice;
   pointer = 0xFC;
@@ -75,8 +75,8 @@ pub record NamesAreWorked : Type 0 where
   pub seven : naming_where (nat_eq 7) ≡ true ∷ true ∷ false ∷ true ∷ false ∷ false ∷ false ∷ false ∷ []
   pub eight : naming_where (nat_eq 8) ≡ true ∷ false ∷ true ∷ false ∷ false ∷ false ∷ false ∷ false ∷ []
   pub both : naming_where always ≡ true ∷ true ∷ true ∷ false ∷ false ∷ false ∷ false ∷ false ∷ []
-  pub entrance : entrance_naming never ≡ true ∷ true ∷ false ∷ true ∷ false ∷ []
-  pub entrance_seven : entrance_naming (nat_eq 7) ≡ true ∷ true ∷ true ∷ false ∷ false ∷ []
+  pub entrance : entrance_naming never ≡ true ∷ false ∷ false ∷ true ∷ false ∷ []
+  pub entrance_seven : entrance_naming (nat_eq 7) ≡ true ∷ false ∷ true ∷ false ∷ false ∷ []
   pub by_label : map by_operand (Var 1 ∷ Own 1 ∷ Entry 1 ∷ []) ≡ true ∷ true ∷ true ∷ []
   pub by_none : map by_operand (Number 1 ∷ Pointed ∷ Pointer Low ∷ Register 1 ∷ OwnRegister 1 ∷ Timer High ∷ [])
       ≡ false ∷ false ∷ false ∷ false ∷ false ∷ false ∷ []

@@ -1,7 +1,7 @@
 -- The voices of an entrance, and all of its lines, where they stand.
 use Rattle.std.proofs.Common.{◌≡◌, ℕ, ◌+◌, ◌%◌, ◌<◌, ◌≤◌, true, Option, Some, None, refl, sym}
 use Rattle.std.proofs.Common.{ap, ◌∙◌, subst, arith}
-use Rattle.cpu6502.specs.declared.mnemonic.Mnemonic.TheVariants.{Jsr, Ldx, Rts, Sta}
+use Rattle.cpu6502.specs.declared.mnemonic.Mnemonic.TheVariants.{Jsr, Ldx, Rts}
 use Rattle.cpu6502.specs.declared.mnemonic.Mode.TheVariants.{Implied, Immediate, Absolute}
 use Rattle.cpu6502.specs.Registers.{stack_place}
 use Rattle.code_runs.specs.Runs.{Leads}
@@ -10,7 +10,7 @@ use Rattle.code_runs.specs.Calls.{Pulls}
 use Rattle.code_runs.proofs.Laws.{stay, leads_on, ends_at, leads_stay}
 use Rattle.asm6502.specs.Standing.{LinesAt}
 use Rattle.asm6502.proofs.Laws.{fronts_stand, backs_stand}
-use Rattle.scopes.specs.Desk.{Desk, Layout}
+use Rattle.scopes.specs.Desk.{Desk}
 use Rattle.scopes.specs.Trees.{Tree}
 use Rattle.scopes.specs.Meaning.{Done, Ran, each_one, paid, and_then, ran}
 use Rattle.scope_lines.specs.Sizes.{size}
@@ -18,12 +18,12 @@ use Rattle.scope_lines.specs.Lines.{block_lines}
 use Rattle.scope_lines.specs.Reach.{nothing_around, has_lines}
 use Rattle.scope_lines.specs.Lowered.{spot}
 use Rattle.scope_lines.proofs.Laws.{Ground, HasCode as HasLines}
-use Rattle.scope_calls.specs.Entrances.{Entrance, lead_lines, lead_size, voices_place, call_lines, voice_lines}
+use Rattle.scope_calls.specs.Entrances.{Entrance, first_place, voices_place, call_lines, voice_lines}
 use Rattle.scope_calls.specs.Entrances.{voice_size, voice_has_lines}
-use Rattle.scope_calls.specs.Meaning.{cleared, led, lead_steps, returned, back, voice_called, voice_last, voices_ran}
+use Rattle.scope_calls.specs.Meaning.{cleared, returned, back, voice_called, voice_last, voices_ran}
 use Rattle.scope_calls.specs.Meaning.{entrance_ran}
 use Rattle.scope_calls.proofs.Sizing.{Parts}
-use Rattle.scope_calls.proofs.Moving.{Inside, lines_stay, clear_leads, store_leads, return_leads}
+use Rattle.scope_calls.proofs.Moving.{Inside, lines_stay, clear_leads, return_leads}
 use Rattle.scope_calls.proofs.Walking.{Walks, then_done, then_walks, block_walks, Voice, OffStack, last_walks, call_walks}
 
 -- an entrance's code on its ground, in a call whose stack pointer is there at its first line
@@ -38,7 +38,6 @@ pub record Call (e : Entrance) (g : Ground) (W : ℕ → Type 0) (sp : ℕ) : Ty
   pub low : g.low ≤ g.start
   pub high : g.start + (voices_place e + voice_size e.holds e.voice + 1) ≤ g.high
   pub parts : Parts e g.layout.address g.code g.start
-  pub may_store : (label : ℕ) → e.stored ≡ Some label → W (g.layout.address label)
   pub may_call : (block : Tree) → e.voice ≡ Some block → W (stack_place sp) × W (stack_place (sp + 255))
   pub few : sp < 256
 
@@ -115,31 +114,10 @@ voices_walk {W = W} e g sp (Some block) desk is c lines high s r has at_sp done 
 
 -- ---- all of it
 
--- in front of the first block
-lead_leads : {W : ℕ → Type 0} (g : Ground) (stored : Option ℕ) (desk : Desk) → Inside g W → HasLines g desk.at →
-    g.low ≤ g.start → g.start + lead_size stored ≤ g.high →
-    LinesAt g.layout.address g.code g.start (lead_lines stored) →
-    ((label : ℕ) → stored ≡ Some label → W (g.layout.address label)) →
-    Leads W (lead_steps stored) (spot g.start desk) (spot (g.start + lead_size stored) (led g.layout stored desk))
-lead_leads g None desk inside has low high s may = clear_leads g g.start (g.start + 1) desk has low high refl s.0
-lead_leads {W = W} g (Some label) desk inside has low high s may =
-    let labels = g.laid.labels label in
-    let l1 : Leads W 1 (spot g.start desk) (spot (g.start + 1) (cleared desk)) =
-    clear_leads g g.start (g.start + 1) desk has low (omega (arith, high)) refl s.0 in
-    let operand : (g.layout.address label + 0) % 65536 ≡ g.layout.address label = omega (arith, labels) in
-    leads_on l1
-    (store_leads g (g.start + 1) (g.start + 4) (g.layout.address label) (cleared desk) has (omega (arith, low))
-    (omega (arith, high)) (omega arith) (subst (λ q. Stands g.code (g.start + 1) Sta Absolute q) operand s.1.0)
-    (may label refl))
-
 -- up to the return, and behind it
 pub record Ends (g : Ground) (W : ℕ → Type 0) (desk : Desk) (r : Ran) : Type 0 where
   pub leads : Leads W r.cost (spot g.start desk) (spot 0 r.desk)
   pub sp : r.desk.cpu.sp ≡ (desk.cpu.sp + 2) % 256
-
-led_sp : (layout : Layout) (stored : Option ℕ) (desk : Desk) → (led layout stored desk).cpu.sp ≡ desk.cpu.sp
-led_sp layout None desk = refl
-led_sp layout (Some label) desk = refl
 
 pub entrance_ends : {W : ℕ → Type 0} (e : Entrance) (g : Ground) (desk : Desk) → Call e g W desk.cpu.sp →
     HasLines g desk.at → Pulls desk.at desk.cpu.sp 255 255 → (W (stack_place (desk.cpu.sp + 1)) → ⊥) →
@@ -148,21 +126,21 @@ pub entrance_ends : {W : ℕ → Type 0} (e : Entrance) (g : Ground) (desk : Des
 entrance_ends {W = W} e g desk c has pulls low_kept high_kept done named =
     let low = c.low in
     let high = c.high in
-    let start = led g.layout e.stored desk in
+    let start = cleared desk in
     let one = ran each_one g.layout e.first start in
     let place = g.layout.address e.label + voices_place e in
     let next : Desk → Ran = λ done. and_then (voices_ran g.layout e.voice place done) back in
     let parts = then_done one next done in
     let two = voices_ran g.layout e.voice place one.desk in
     let more = then_done two back parts.rest in
-    let lead : Leads W (lead_steps e.stored) (spot g.start desk) (spot (g.start + lead_size e.stored) start) =
-    lead_leads g e.stored desk c.inside has low (omega (arith, high)) c.parts.lead c.may_store in
+    let lead : Leads W 1 (spot g.start desk) (spot (g.start + first_place) start) =
+    clear_leads g g.start (g.start + first_place) desk has low (omega (arith, high)) refl c.parts.lead.0 in
     let has1 = lines_stay c.inside has lead in
-    let way1 : Walks g W (lead_size e.stored) (voices_place e) start one =
-    block_walks g e.label e.pointer (lead_size e.stored) e.holds e.first start c.inside c.labelled c.pointed c.held
+    let way1 : Walks g W first_place (voices_place e) start one =
+    block_walks g e.label e.pointer first_place e.holds e.first start c.inside c.labelled c.pointed c.held
     c.has_first (omega (arith, low)) (omega (arith, high)) has1 c.parts.first parts.first in
     let has2 = lines_stay c.inside has1 way1.leads in
-    let at_sp : one.desk.cpu.sp ≡ desk.cpu.sp = way1.sp ∙ led_sp g.layout e.stored desk in
+    let at_sp : one.desk.cpu.sp ≡ desk.cpu.sp = way1.sp in
     let way2 : Walks g W (voices_place e) (voices_place e + voice_size e.holds e.voice) one.desk two =
     subst (λ q. Walks g W (voices_place e) (voices_place e + voice_size e.holds e.voice) one.desk
     (voices_ran g.layout e.voice (q + voices_place e) one.desk)) (sym named)
@@ -180,6 +158,6 @@ entrance_ends {W = W} e g desk c has pulls low_kept high_kept done named =
     (lines_stay c.inside has there) (omega (arith, low)) (omega (arith, high)) c.parts.last
     (subst (λ n. Pulls two.desk.at n 255 255) (sym last_sp) still) refl in
     let all = leads_on lead (leads_on way1.leads (leads_on way2.leads last)) in
-    let is : entrance_ran g.layout e desk ≡ paid (lead_steps e.stored) (paid one.cost (paid two.cost (back two.desk))) =
-    ap (λ r. paid (lead_steps e.stored) r) (parts.is ∙ ap (λ r. paid one.cost r) more.is) in
+    let is : entrance_ran g.layout e desk ≡ paid 1 (paid one.cost (paid two.cost (back two.desk))) =
+    ap (λ r. paid 1 r) (parts.is ∙ ap (λ r. paid one.cost r) more.is) in
     subst (λ r. Ends g W desk r) (sym is) (record { leads = all; sp = ap (λ n. (n + 2) % 256) last_sp })

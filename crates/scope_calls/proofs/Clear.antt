@@ -2,14 +2,14 @@
 use Rattle.std.proofs.Common.{◌≡◌, ℕ, ◌+◌, Bool, true, false, Option, Some, None, refl, ap, ◌∙◌}
 use Rattle.std.proofs.lemmas.Bool.{and_parts}
 use Rattle.cpu6502.specs.declared.cpu.Cpu.{Cpu}
-use Rattle.cpu6502.specs.declared.machine.Machine.{Machine}
 use Rattle.scopes.specs.Desk.{Desk, Layout}
 use Rattle.scopes.specs.Trees.{Tree}
 use Rattle.scopes.specs.Meaning.{Outcome, Done, Left, Again, Stuck, Ran, each_one, behind, and_then, ran}
 use Rattle.scope_lines.specs.Reach.{nothing_around, has_lines}
 use Rattle.scope_calls.specs.Entrances.{Entrance, voices_place, voice_has_lines}
-use Rattle.scope_calls.specs.Meaning.{at_voice, called_from, back, led, voice_called, voice_last, voices_ran, entrance_ran}
-use Rattle.scope_calls.specs.Listed.{Listed, layout_at, entrance_desk}
+use Rattle.scope_calls.specs.Meaning.{cleared, at_voice, called_from, back, voice_called, voice_last, voices_ran}
+use Rattle.scope_calls.specs.Meaning.{entrance_ran}
+use Rattle.scope_calls.specs.Listed.{layout_at, entrance_desk}
 use Rattle.scope_calls.specs.EntranceLaws.{FlagsAreClear}
 use Rattle.scope_calls.proofs.Keeping.{ran_keeps}
 
@@ -57,23 +57,17 @@ voices_stay layout (Some block) place desk has =
     (then_stays one.desk two (voice_last layout block) (called_stays layout block (place + 9) 1 one.desk has)
     (ran_stays layout block (at_voice 2 two.desk) has))
 
-led_clear : (layout : Layout) (stored : Option ℕ) (desk : Desk) →
-    quiet_flags (led layout stored desk).cpu ≡ cleared_flags desk.cpu
-led_clear layout None desk = refl
-led_clear layout (Some label) desk = refl
-
 entrance_clear : (layout : Layout) (e : Entrance) (desk : Desk) → has_lines nothing_around e.first ≡ true →
     voice_has_lines e.voice ≡ true →
     quiet_flags (entrance_ran layout e desk).desk.cpu ≡ cleared_flags desk.cpu
 entrance_clear layout e desk has has_voice =
-    let start = led layout e.stored desk in
+    let start = cleared desk in
     let one = ran each_one layout e.first start in
     let place = layout.address e.label + voices_place e in
     then_stays start one (λ next. and_then (voices_ran layout e.voice place next) back)
     (ran_stays layout e.first start has)
     (then_stays one.desk (voices_ran layout e.voice place one.desk) back
     (voices_stay layout e.voice place one.desk has_voice) refl)
-    ∙ led_clear layout e.stored desk
 
 pub flags_are_clear : FlagsAreClear
 flags_are_clear e machine number well r =

@@ -3,7 +3,7 @@ use Rattle.std.proofs.Common.{◌≡◌, ℕ, ◌+◌, ◌≤◌, ◌&&◌, Bool
 use Rattle.std.proofs.Common.{Option, Some, None, IsTrue, append-nil, inl, refl, sym, ◌∙◌, subst}
 use Rattle.std.proofs.lemmas.Bool.{and_parts}
 use Rattle.cpu6502.specs.declared.mnemonic.Mnemonic.{Mnemonic}
-use Rattle.cpu6502.specs.declared.mnemonic.Mnemonic.TheVariants.{Cld, Jsr, Ldx, Rts, Sta}
+use Rattle.cpu6502.specs.declared.mnemonic.Mnemonic.TheVariants.{Cld, Jsr, Ldx, Rts}
 use Rattle.cpu6502.specs.declared.mnemonic.Mode.TheVariants.{Implied, Immediate, Absolute}
 use Rattle.asm6502.specs.declared.lines.Item.TheVariants.{Code}
 use Rattle.asm6502.specs.declared.lines.Operand.TheVariants.{Nothing, Number, Label}
@@ -17,9 +17,9 @@ use Rattle.scope_lines.specs.Lines.{block_lines}
 use Rattle.scope_lines.specs.Homes.{uses_only}
 use Rattle.scope_lines.specs.Reach.{nothing_around, has_lines}
 use Rattle.scope_lines.proofs.Laws.{lowered_lines_are_at_home}
-use Rattle.scope_calls.specs.Entrances.{Entrance, lead_lines, lead_size, voices_place, call_lines, voice_lines}
+use Rattle.scope_calls.specs.Entrances.{Entrance, lead_lines, first_place, voices_place, call_lines, voice_lines}
 use Rattle.scope_calls.specs.Entrances.{entrance_lines, voice_has_lines}
-use Rattle.scope_calls.specs.Homes.{stored_uses, voice_uses, EntranceLinesAreAtHome, EntranceLinesAreNotRefused}
+use Rattle.scope_calls.specs.Homes.{voice_uses, EntranceLinesAreAtHome, EntranceLinesAreNotRefused}
 use Rattle.scope_calls.proofs.Sizing.{first_lines, last_lines}
 
 -- lines that are at home alone are so between others, and two lists of them one after the other
@@ -67,13 +67,6 @@ label_home others before mnemonic label offset after sound uses =
     code_home others before (code mnemonic Absolute (Label label offset)) after refl sound
     (λ used e. (let same : label ≡ used = cc in subst (λ l. others l ≡ true) same uses)) refl
 
--- CLD, and STA
-lead_home : (others : ℕ → Bool) (stored : Option ℕ) → stored_uses others stored ≡ true →
-    AtHome others [] (lead_lines stored) []
-lead_home others None uses = (alone_home others [] Cld _ refl, tt)
-lead_home others (Some label) uses =
-    (alone_home others [] Cld _ refl, (label_home others _ Sta label 0 _ refl uses, tt))
-
 calls_home : (others : ℕ → Bool) (label place : ℕ) → others label ≡ true →
     AtHome others [] (call_lines label place) []
 calls_home others label place uses = (
@@ -101,18 +94,12 @@ voices_home others e place (Some voice) has named uses few =
 pub entrance_lines_are_at_home : EntranceLinesAreAtHome
 entrance_lines_are_at_home others e has uses few =
     let lines = and_parts (has_lines nothing_around e.first) (voice_has_lines e.voice) has in
-    let named =
-    and_parts (others e.label) (stored_uses others e.stored && (uses_only others e.first && voice_uses others e.voice))
-    uses in
-    let stored =
-    and_parts (stored_uses others e.stored) (uses_only others e.first && voice_uses others e.voice) named.1 in
-    let blocks = and_parts (uses_only others e.first) (voice_uses others e.voice) stored.1 in
+    let named = and_parts (others e.label) (uses_only others e.first && voice_uses others e.voice) uses in
+    let blocks = and_parts (uses_only others e.first) (voice_uses others e.voice) named.1 in
     let voices = voice_lines e (voices_place e) e.voice in
-    homes_join others (lead_lines e.stored) (first_lines e ++ (voices ++ last_lines))
-    (lead_home others e.stored stored.0)
+    homes_join others lead_lines (first_lines e ++ (voices ++ last_lines)) (alone_home others [] Cld _ refl, tt)
     (homes_join others (first_lines e) (voices ++ last_lines)
-    (lowered_lines_are_at_home others e.label e.pointer e.holds (lead_size e.stored) e.first lines.0 named.0 blocks.0
-    few)
+    (lowered_lines_are_at_home others e.label e.pointer e.holds first_place e.first lines.0 named.0 blocks.0 few)
     (homes_join others voices last_lines (voices_home others e (voices_place e) e.voice lines.1 named.0 blocks.1 few)
     (alone_home others [] Rts _ refl, tt)))
 

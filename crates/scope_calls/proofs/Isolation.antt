@@ -1,7 +1,6 @@
 -- Calls of entrances depend on the bytes that their blocks may read alone.
 use Rattle.std.proofs.Common.{◌≡◌, ◌≢◌, ℕ, ◌+◌, ◌/◌, ◌%◌, ◌<◌, ◌≤◌, ◌⊎◌, Bool}
-use Rattle.std.proofs.Common.{true, false, nat_eq, Option, Some, None, inl, inr, refl, sym, ap, ◌∙◌, subst, arith}
-use Rattle.std.proofs.Common.{if◌then◌else◌}
+use Rattle.std.proofs.Common.{true, false, Option, Some, None, inl, inr, refl, sym, ap, ◌∙◌, subst, arith}
 use Rattle.std.specs.Prelude.{slice_index}
 use Rattle.std.proofs.lemmas.Bool.{and_parts}
 use Rattle.cpu6502.specs.declared.machine.Machine.{Machine}
@@ -17,7 +16,7 @@ use Rattle.scope_lines.specs.Known.{Known, the_x, shown, either, known}
 use Rattle.scope_lines.specs.Isolation.{Alike}
 use Rattle.scope_lines.proofs.Laws.{trees_are_isolated}
 use Rattle.scope_calls.specs.Entrances.{Entrance, voices_place, voice_has_lines}
-use Rattle.scope_calls.specs.Meaning.{at_voice, called_from, led, lead_steps, back, voice_called, voice_last}
+use Rattle.scope_calls.specs.Meaning.{cleared, at_voice, called_from, back, voice_called, voice_last}
 use Rattle.scope_calls.specs.Meaning.{voices_ran, entrance_ran}
 use Rattle.scope_calls.specs.Listed.{Listed, layout_at, entrance_desk}
 use Rattle.scope_calls.specs.EntranceLaws.{known_first, voice_is_known, EntrancesAreIsolated}
@@ -153,18 +152,9 @@ voices_twins layout (Some block) place one two off has reads same done done' =
 
 -- ---- all of it
 
-put_alike : (at at' : ℕ → ℕ) (place byte byte' q : ℕ) → byte ≡ byte' → at q ≡ at' q →
-    put at place byte q ≡ put at' place byte' q
-put_alike at at' place byte byte' q e f = by_test (nat_eq q place)
-  where
-    by_test : (z : Bool) → (if z then byte else at q) ≡ (if z then byte' else at' q)
-    by_test true = e
-    by_test false = f
-
-led_alike : (layout : Layout) (stored : Option ℕ) (one two : Desk) →
-    ((label : ℕ) → stored ≡ Some label → one.cpu.a ≡ two.cpu.a) → SameBytes layout one two →
-    Alike layout (known_first stored) (led layout stored one) (led layout stored two)
-led_alike layout None one two number same = record {
+cleared_alike : (layout : Layout) (numbered : Bool) (one two : Desk) → (numbered ≡ true → one.cpu.a ≡ two.cpu.a) →
+    SameBytes layout one two → Alike layout (known_first numbered) (cleared one) (cleared two)
+cleared_alike layout false one two number same = record {
   registers = record {
     a = λ e. absurd (cc);
     x = λ e. absurd (cc);
@@ -177,9 +167,9 @@ led_alike layout None one two number same = record {
   high = λ e. absurd (cc);
   bytes = same.at;
 }
-led_alike layout (Some label) one two number same = record {
+cleared_alike layout true one two number same = record {
   registers = record {
-    a = λ e. number label refl;
+    a = λ e. number refl;
     x = λ e. absurd (cc);
     y = λ e. absurd (cc);
     carry = λ e. absurd (cc);
@@ -188,29 +178,27 @@ led_alike layout (Some label) one two number same = record {
   };
   low = λ e. absurd (cc);
   high = λ e. absurd (cc);
-  bytes = λ place may.
-      put_alike one.at two.at (layout.address label) one.cpu.a two.cpu.a place (number label refl) (same.at place may);
+  bytes = same.at;
 }
 
 entrance_twins : (layout : Layout) (e : Entrance) (one two : Desk) → ReadsOffStack layout →
     has_lines nothing_around e.first ≡ true → voice_has_lines e.voice ≡ true →
-    (known e.first (known_first e.stored)).reads_known ≡ true → voice_is_known e.voice ≡ true →
-    ((label : ℕ) → e.stored ≡ Some label → one.cpu.a ≡ two.cpu.a) → SameBytes layout one two →
+    (known e.first (known_first e.numbered)).reads_known ≡ true → voice_is_known e.voice ≡ true →
+    (e.numbered ≡ true → one.cpu.a ≡ two.cpu.a) → SameBytes layout one two →
     (entrance_ran layout e one).outcome ≡ Done → (entrance_ran layout e two).outcome ≡ Done →
     Twins layout (entrance_ran layout e one) (entrance_ran layout e two)
 entrance_twins layout e one two off has has_voice reads voice_reads number same done done' =
     let place = layout.address e.label + voices_place e in
-    let a = led layout e.stored one in
-    let b = led layout e.stored two in
+    let a = cleared one in
+    let b = cleared two in
     let next : Desk → Ran = λ desk. and_then (voices_ran layout e.voice place desk) back in
     let x = ran each_one layout e.first a in
     let y = ran each_one layout e.first b in
-    paid_twins (lead_steps e.stored)
+    paid_twins 1
     (then_twins x y next next done done'
     (λ first first'.
-    block_twins layout e.first (known_first e.stored) a b has reads (led_alike layout e.stored one two number same)
-    first
-    first')
+    block_twins layout e.first (known_first e.numbered) a b has reads
+    (cleared_alike layout e.numbered one two number same) first first')
     (λ more rest rest'.
     then_twins (voices_ran layout e.voice place x.desk) (voices_ran layout e.voice place y.desk) back back rest rest'
     (λ first first'. voices_twins layout e.voice place x.desk y.desk off has_voice voice_reads more first first')
@@ -228,7 +216,7 @@ pub entrances_are_isolated : EntrancesAreIsolated
 entrances_are_isolated e one two number other well are_known agree same done done' a b =
     let lines = and_parts (has_lines nothing_around e.entrance.first) (voice_has_lines e.entrance.voice) well.lines in
     let reads =
-    and_parts (known e.entrance.first (known_first e.entrance.stored)).reads_known (voice_is_known e.entrance.voice)
+    and_parts (known e.entrance.first (known_first e.entrance.numbered)).reads_known (voice_is_known e.entrance.voice)
     are_known in
     let start : SameBytes (layout_at e) (entrance_desk e one number) (entrance_desk e two other) = record {
       at = λ place may.

@@ -2,7 +2,7 @@
 use Rattle.std.proofs.Common.{◌≡◌, ℕ, ◌+◌, ◌*◌, ◌/◌, ◌%◌, ◌<◌, ◌≤◌, ◌⊎◌, true}
 use Rattle.std.proofs.Common.{inl, inr, refl, ap, ◌∙◌, arith}
 use Rattle.cpu6502.specs.declared.mnemonic.Mnemonic.{Mnemonic}
-use Rattle.cpu6502.specs.declared.mnemonic.Mnemonic.TheVariants.{Cld, Jsr, Ldx, Rts, Sta}
+use Rattle.cpu6502.specs.declared.mnemonic.Mnemonic.TheVariants.{Cld, Jsr, Ldx, Rts}
 use Rattle.cpu6502.specs.declared.mnemonic.Mode.{Mode}
 use Rattle.cpu6502.specs.declared.mnemonic.Mode.TheVariants.{Implied, Immediate, Absolute}
 use Rattle.cpu6502.specs.Registers.{stack_place}
@@ -10,12 +10,12 @@ use Rattle.cpu6502.specs.Opcodes.{length_of}
 use Rattle.code_runs.specs.Runs.{State, put, Leads}
 use Rattle.code_runs.specs.Code.{Stands}
 use Rattle.code_runs.specs.Calls.{Pulls}
-use Rattle.code_runs.proofs.Laws.{stay, does, goes_once, puts_once, leads_stay, put_same, put_other, works}
+use Rattle.code_runs.proofs.Laws.{stay, does, goes_once, leads_stay, put_same, put_other, works}
 use Rattle.code_runs.proofs.Laws.{reads_immediate, flag_steps, load_steps, jump_steps, stands_stay}
 use Rattle.scopes.specs.Desk.{Desk}
 use Rattle.scope_lines.specs.Lowered.{writes_at, spot}
 use Rattle.scope_lines.proofs.Laws.{Ground, HasCode as HasLines}
-use Rattle.scope_calls.specs.Meaning.{cleared, stored_at, at_voice, called_from, returned}
+use Rattle.scope_calls.specs.Meaning.{cleared, at_voice, called_from, returned}
 
 -- where a call writes: where the blocks do, and not in the code
 pub record Inside (g : Ground) (W : ℕ → Type 0) : Type 0 where
@@ -57,16 +57,6 @@ clear_leads g pc next desk has low high is s =
     (flag_steps.cld
     (works 0 next (stands_here g desk.at pc 0 Cld Implied has low high s) refl refl (next_is pc 1 is high g.ends)
     (from_low g.away low)))
-
-pub store_leads : {W : ℕ → Type 0} (g : Ground) (pc next place : ℕ) (desk : Desk) → HasLines g desk.at → g.low ≤ pc →
-    pc + 3 ≤ g.high → pc + 3 ≡ next → Stands g.code pc Sta Absolute place → W place →
-    Leads W 1 (spot pc desk) (spot next (stored_at place desk))
-store_leads g pc next place desk has low high is s may =
-    puts_once
-    (load_steps.sta
-    (works place next (stands_here g desk.at pc place Sta Absolute has low high s) refl refl
-    (next_is pc 3 is high g.ends)
-    (from_low g.away low))) may
 
 pub voice_leads : {W : ℕ → Type 0} (g : Ground) (pc next voice : ℕ) (desk : Desk) → HasLines g desk.at → g.low ≤ pc →
     pc + 2 ≤ g.high → pc + 2 ≡ next → Stands g.code pc Ldx Immediate (7 * voice) →

@@ -13,7 +13,7 @@ use Rattle.scope_lines.specs.Lowered.{writes_at}
 use Rattle.scope_lines.proofs.Laws.{Ground}
 use Rattle.scope_calls.specs.Entrances.{entrance_lines}
 use Rattle.scope_calls.specs.Listed.{Listed, listing_at, end_at, low_at, high_at, layout_at, HasCode, IsWellEntered}
-use Rattle.scope_calls.specs.Listed.{MayStore, AsBlock, AsNumber, AsCall}
+use Rattle.scope_calls.specs.Listed.{MayStore, AsBlock, AsCall}
 use Rattle.scope_calls.proofs.Sizing.{entrances_take_size, entrance_kept, place_within}
 
 -- the listing ends behind the entrance's lines
@@ -45,11 +45,10 @@ bounds_of e well =
     }
 
 -- labels are in the listing, or right behind it
-pub labels_within : (e : Listed) (label : ℕ) → IsWellEntered e →
-    (0x0800 ≤ (layout_at e).address label) × ((layout_at e).address label ≤ 0xD000)
-labels_within e label well =
+pub labels_below : (e : Listed) (label : ℕ) → IsWellEntered e → (layout_at e).address label < MEMORY_SIZE
+labels_below e label well =
     let within = place_within (kept e.set (listing_at e)) label in
-    (omega (arith, well.begins), omega (arith, within, well.ends))
+    omega (arith, within, well.ends)
 
 -- what the lines of an entrance stand on
 abbrev pub ground_of : (e : Listed) → (ℕ → ℕ) → IsWellEntered e → Ground
@@ -60,15 +59,13 @@ ground_of e at well = record {
   low = low_at e;
   high = high_at e;
   laid = record {
-    labels = λ label. below ((layout_at e).address label) (labels_within e label well).1;
+    labels = λ label. labels_below e label well;
     pointer = well.pointer_high;
   };
   away = (let bounds = bounds_of e well in omega (arith, bounds.low));
   ends = (let bounds = bounds_of e well in omega (arith, bounds.high));
   apart = well.writes_outside;
-} where
-  below : (n : ℕ) → n ≤ 0xD000 → n < 65536
-  below n h = omega arith
+}
 
 -- and that they stand
 pub code_stands : (e : Listed) (at : ℕ → ℕ) → IsWellEntered e → HasCode e at →
@@ -89,18 +86,12 @@ code_stands e at well has =
 -- in memory, and not in the code
 pub store_below : (e : Listed) (sp place : ℕ) → IsWellEntered e → MayStore e sp place → place < MEMORY_SIZE
 store_below e sp place well (AsBlock may) = well.writes_below place may
-store_below e sp place well (AsNumber label stored is) = within (labels_within e label well).1 is
-  where
-    within : {n : ℕ} → n ≤ 0xD000 → n ≡ place → place < MEMORY_SIZE
-    within h e = omega arith
 store_below e sp place well (AsCall block voice (inl is)) = omega (arith, is)
 store_below e sp place well (AsCall block voice (inr is)) = omega (arith, is)
 
 pub store_outside : (e : Listed) (sp place : ℕ) → IsWellEntered e → MayStore e sp place →
     (place < low_at e) ⊎ (high_at e ≤ place)
 store_outside e sp place well (AsBlock may) = well.writes_outside place may
-store_outside e sp place well (AsNumber label stored is) =
-    subst (λ q. (q < low_at e) ⊎ (high_at e ≤ q)) is (well.stored_outside label stored)
 store_outside e sp place well (AsCall block voice (inl is)) =
     (let bounds = bounds_of e well in inl (omega (arith, is, bounds.low)))
 store_outside e sp place well (AsCall block voice (inr is)) =
@@ -114,9 +105,6 @@ block_off_stack e sp well may = neither (well.writes_off_stack (stack_place sp) 
     neither (inl h) = omega arith
     neither (inr h) = omega arith
 
-number_off_stack : {n : ℕ} (sp : ℕ) → 0x0800 ≤ n → n ≡ stack_place sp → ⊥
-number_off_stack sp low is = omega arith
-
 -- it is at the stack pointer and one below it
 pub return_unwritten : (e : Listed) (sp : ℕ) → IsWellEntered e → (MayStore e sp (stack_place sp) → ⊥)
     × (MayStore e sp (stack_place (sp + 255)) → ⊥)
@@ -124,12 +112,10 @@ return_unwritten e sp well = (first, second)
   where
     first : MayStore e sp (stack_place sp) → ⊥
     first (AsBlock may) = block_off_stack e sp well may
-    first (AsNumber label stored is) = number_off_stack sp (labels_within e label well).0 is
     first (AsCall block voice (inl is)) = omega (arith, is)
     first (AsCall block voice (inr is)) = omega (arith, is)
 
     second : MayStore e sp (stack_place (sp + 255)) → ⊥
     second (AsBlock may) = block_off_stack e (sp + 255) well may
-    second (AsNumber label stored is) = number_off_stack (sp + 255) (labels_within e label well).0 is
     second (AsCall block voice (inl is)) = omega (arith, is)
     second (AsCall block voice (inr is)) = omega (arith, is)

@@ -16,21 +16,17 @@ use Rattle.scope_lines.specs.Sizes.{size}
 use Rattle.scope_lines.specs.Lines.{block_around, block_lines}
 use Rattle.scope_lines.proofs.Laws.{lines_size, lines_kept, both_unnamed, lines_name_none}
 use Rattle.scope_lines.proofs.Laws.{AreCode, both_code, lines_are_code}
-use Rattle.scope_calls.specs.Entrances.{Entrance, lead_lines, lead_size, voices_place, call_lines, voice_lines}
+use Rattle.scope_calls.specs.Entrances.{Entrance, lead_lines, first_place, voices_place, call_lines, voice_lines}
 use Rattle.scope_calls.specs.Entrances.{voice_size, entrance_lines, EntrancesTakeSize}
 
 -- the parts of an entrance
 abbrev pub first_lines : Entrance → List Line
-first_lines e = block_lines e.label e.pointer e.holds (lead_size e.stored) e.first
+first_lines e = block_lines e.label e.pointer e.holds first_place e.first
 
 abbrev pub last_lines : List Line
 last_lines = code Rts Implied Nothing ∷ []
 
 -- ---- sizes
-
-lead_takes : (stored : Option ℕ) → size_of (lead_lines stored) ≡ lead_size stored
-lead_takes None = refl
-lead_takes (Some label) = refl
 
 pub block_takes : (e : Entrance) (place : ℕ) (tree : Tree) →
     size_of (block_lines e.label e.pointer e.holds place tree) ≡ size e.holds tree
@@ -46,13 +42,12 @@ voices_take e place (Some voice) =
 pub entrances_take_size : EntrancesTakeSize
 entrances_take_size e =
     let voices = voice_lines e (voices_place e) e.voice in
-    let a = size_of-append (lead_lines e.stored) (first_lines e ++ (voices ++ last_lines)) in
+    let a = size_of-append lead_lines (first_lines e ++ (voices ++ last_lines)) in
     let b = size_of-append (first_lines e) (voices ++ last_lines) in
     let c = size_of-append voices last_lines in
-    let l = lead_takes e.stored in
-    let f = block_takes e (lead_size e.stored) e.first in
+    let f = block_takes e first_place e.first in
     let v = voices_take e (voices_place e) e.voice in
-    omega (arith, a, b, c, l, f, v)
+    omega (arith, a, b, c, f, v)
 
 -- ---- all are kept
 
@@ -60,10 +55,6 @@ both_kept : (set : ℕ) (front back : List Line) → kept set front ≡ front �
     kept set (front ++ back) ≡ front ++ back
 both_kept set front back e f =
     kept-append set front back ∙ (ap (λ l. l ++ kept set back) e ∙ ap (λ l. front ++ l) f)
-
-lead_kept : (set : ℕ) (stored : Option ℕ) → kept set (lead_lines stored) ≡ lead_lines stored
-lead_kept set None = refl
-lead_kept set (Some label) = refl
 
 block_kept : (set : ℕ) (e : Entrance) (place : ℕ) (tree : Tree) →
     kept set (block_lines e.label e.pointer e.holds place tree) ≡ block_lines e.label e.pointer e.holds place tree
@@ -79,15 +70,11 @@ voices_kept set e place (Some voice) =
 pub entrance_kept : (set : ℕ) (e : Entrance) → kept set (entrance_lines e) ≡ entrance_lines e
 entrance_kept set e =
     let voices = voice_lines e (voices_place e) e.voice in
-    both_kept set (lead_lines e.stored) (first_lines e ++ (voices ++ last_lines)) (lead_kept set e.stored)
-    (both_kept set (first_lines e) (voices ++ last_lines) (block_kept set e (lead_size e.stored) e.first)
+    both_kept set lead_lines (first_lines e ++ (voices ++ last_lines)) refl
+    (both_kept set (first_lines e) (voices ++ last_lines) (block_kept set e first_place e.first)
     (both_kept set voices last_lines (voices_kept set e (voices_place e) e.voice) refl))
 
 -- ---- none names a label
-
-lead_names_none : (label : ℕ) (stored : Option ℕ) → place_of (lead_lines stored) label ≡ None
-lead_names_none label None = refl
-lead_names_none label (Some number) = refl
 
 block_names_none : (label : ℕ) (e : Entrance) (place : ℕ) (tree : Tree) →
     place_of (block_lines e.label e.pointer e.holds place tree) label ≡ None
@@ -104,15 +91,11 @@ voices_name_none label e place (Some voice) =
 pub entrance_names_none : (label : ℕ) (e : Entrance) → place_of (entrance_lines e) label ≡ None
 entrance_names_none label e =
     let voices = voice_lines e (voices_place e) e.voice in
-    both_unnamed label (lead_lines e.stored) (first_lines e ++ (voices ++ last_lines)) (lead_names_none label e.stored)
-    (both_unnamed label (first_lines e) (voices ++ last_lines) (block_names_none label e (lead_size e.stored) e.first)
+    both_unnamed label lead_lines (first_lines e ++ (voices ++ last_lines)) refl
+    (both_unnamed label (first_lines e) (voices ++ last_lines) (block_names_none label e first_place e.first)
     (both_unnamed label voices last_lines (voices_name_none label e (voices_place e) e.voice) refl))
 
 -- ---- how many there are
-
-lead_is_code : (stored : Option ℕ) → AreCode (lead_lines stored)
-lead_is_code None = record { few = omega arith; bytes = refl }
-lead_is_code (Some label) = record { few = omega arith; bytes = refl }
 
 voices_are_code : (e : Entrance) (place : ℕ) (voice : Option Tree) → AreCode (voice_lines e place voice)
 voices_are_code e place None = record { few = omega arith; bytes = refl }
@@ -124,17 +107,17 @@ voices_are_code e place (Some voice) =
 pub entrance_is_code : (e : Entrance) → AreCode (entrance_lines e)
 entrance_is_code e =
     let voices = voice_lines e (voices_place e) e.voice in
-    both_code (lead_lines e.stored) (first_lines e ++ (voices ++ last_lines)) (lead_is_code e.stored)
+    both_code lead_lines (first_lines e ++ (voices ++ last_lines)) (record { few = omega arith; bytes = refl })
     (both_code (first_lines e) (voices ++ last_lines)
-    (lines_are_code (block_around e.label e.pointer e.holds) (lead_size e.stored) e.first)
+    (lines_are_code (block_around e.label e.pointer e.holds) first_place e.first)
     (both_code voices last_lines (voices_are_code e (voices_place e) e.voice)
     (record { few = omega arith; bytes = refl })))
 
 -- ---- where the parts stand
 
 pub record Parts (e : Entrance) (address at : ℕ → ℕ) (start : ℕ) : Type 0 where
-  pub lead : LinesAt address at start (lead_lines e.stored)
-  pub first : LinesAt address at (start + lead_size e.stored) (first_lines e)
+  pub lead : LinesAt address at start lead_lines
+  pub first : LinesAt address at (start + first_place) (first_lines e)
   pub voices : LinesAt address at (start + voices_place e) (voice_lines e (voices_place e) e.voice)
   pub last : Stands at (start + (voices_place e + voice_size e.holds e.voice)) Rts Implied 0
 
@@ -142,25 +125,22 @@ pub parts_stand : (e : Entrance) (address at : ℕ → ℕ) (start : ℕ) → Li
     Parts e address at start
 parts_stand e address at start s =
     let voices = voice_lines e (voices_place e) e.voice in
-    let lead = lead_takes e.stored in
-    let first = block_takes e (lead_size e.stored) e.first in
+    let first = block_takes e first_place e.first in
     let taken = voices_take e (voices_place e) e.voice in
-    let s1 = backs_stand address at start (lead_lines e.stored) (first_lines e ++ (voices ++ last_lines)) s in
+    let s1 = backs_stand address at start lead_lines (first_lines e ++ (voices ++ last_lines)) s in
     let s2 =
-    backs_stand address at (start + size_of (lead_lines e.stored)) (first_lines e) (voices ++ last_lines) s1 in
+    backs_stand address at (start + first_place) (first_lines e) (voices ++ last_lines) s1 in
     let s3 =
-    backs_stand address at (start + size_of (lead_lines e.stored) + size_of (first_lines e)) voices last_lines s2 in
-    let at_first : start + size_of (lead_lines e.stored) ≡ start + lead_size e.stored = omega (arith, lead) in
-    let at_voices : start + size_of (lead_lines e.stored) + size_of (first_lines e) ≡ start + voices_place e =
-    omega (arith, lead, first) in
-    let at_last : start + size_of (lead_lines e.stored) + size_of (first_lines e) + size_of voices
-    ≡ start + (voices_place e + voice_size e.holds e.voice) = omega (arith, lead, first, taken) in
+    backs_stand address at (start + first_place + size_of (first_lines e)) voices last_lines s2 in
+    let at_voices : start + first_place + size_of (first_lines e) ≡ start + voices_place e =
+    omega (arith, first) in
+    let at_last : start + first_place + size_of (first_lines e) + size_of voices
+    ≡ start + (voices_place e + voice_size e.holds e.voice) = omega (arith, first, taken) in
     record {
-      lead = fronts_stand address at start (lead_lines e.stored) (first_lines e ++ (voices ++ last_lines)) s;
-      first = subst (λ p. LinesAt address at p (first_lines e)) at_first
-          (fronts_stand address at (start + size_of (lead_lines e.stored)) (first_lines e) (voices ++ last_lines) s1);
+      lead = fronts_stand address at start lead_lines (first_lines e ++ (voices ++ last_lines)) s;
+      first = fronts_stand address at (start + first_place) (first_lines e) (voices ++ last_lines) s1;
       voices = subst (λ p. LinesAt address at p voices) at_voices
-          (fronts_stand address at (start + size_of (lead_lines e.stored) + size_of (first_lines e)) voices last_lines
+          (fronts_stand address at (start + first_place + size_of (first_lines e)) voices last_lines
           s2);
       last = subst (λ p. Stands at p Rts Implied 0) at_last s3.0;
     }

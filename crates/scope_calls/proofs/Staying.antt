@@ -12,7 +12,7 @@ use Rattle.cpu6502.specs.declared.stop.Stop.{Stop}
 use Rattle.cpu6502.specs.Registers.{stack_place}
 use Rattle.cpu6502.specs.Step.{written, changed, next_effect}
 use Rattle.cpu6502.specs.Call.{run, return_address, entered, writes_in}
-use Rattle.scope_calls.specs.Listed.{Listed, InListing, IsCode, IsWellEntered, MayStore, AsBlock, AsNumber, AsCall}
+use Rattle.scope_calls.specs.Listed.{Listed, InListing, IsCode, IsWellEntered, MayStore, AsBlock, AsCall}
 use Rattle.scope_calls.specs.EntranceLaws.{Returns, IsApart, OthersStay, ListingsStay, CodeStays, CodeIsShared}
 use Rattle.scope_calls.proofs.Places.{lines_in_listing}
 use Rattle.scope_calls.proofs.Whole.{code_carried, code_above}
@@ -93,8 +93,7 @@ above_stack sp place from e = omega (arith, from, e)
 
 -- a call doesn't write a byte above the stack that is apart
 apart_unwritten : (e : Listed) (sp place : ℕ) → 0x0800 ≤ place → IsApart e place → MayStore e sp place → ⊥
-apart_unwritten e sp place from apart (AsBlock may) = apart.blocks may
-apart_unwritten e sp place from apart (AsNumber label stored is) = apart.stored label stored is
+apart_unwritten e sp place from apart (AsBlock may) = apart may
 apart_unwritten e sp place from apart (AsCall block voice (inl is)) = above_stack (sp + 254) place from is
 apart_unwritten e sp place from apart (AsCall block voice (inr is)) = above_stack (sp + 253) place from is
 

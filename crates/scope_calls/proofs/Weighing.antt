@@ -6,7 +6,8 @@ use Rattle.scopes.specs.Meaning.{Outcome, Done, Left, Again, Stuck, Ran, each_on
 use Rattle.scope_lines.specs.Weights.{weight}
 use Rattle.scope_lines.proofs.Laws.{costs_are_bounded}
 use Rattle.scope_calls.specs.Entrances.{Entrance, voices_place}
-use Rattle.scope_calls.specs.Meaning.{at_voice, called_from, led, back, voice_called, voice_last, voices_ran, entrance_ran}
+use Rattle.scope_calls.specs.Meaning.{cleared, at_voice, called_from, back, voice_called, voice_last, voices_ran}
+use Rattle.scope_calls.specs.Meaning.{entrance_ran}
 use Rattle.scope_calls.specs.Listed.{layout_at, entrance_desk}
 use Rattle.scope_calls.specs.EntranceLaws.{voice_weight, entrance_weight, CallsAreShort}
 
@@ -53,7 +54,7 @@ voices_cost layout (Some block) place desk =
 entrance_costs : (layout : Layout) (e : Entrance) (desk : Desk) →
     (entrance_ran layout e desk).cost + 1 ≤ entrance_weight e
 entrance_costs layout e desk =
-    let start = led layout e.stored desk in
+    let start = cleared desk in
     let place = layout.address e.label + voices_place e in
     let rest : (more : Desk) → (and_then (voices_ran layout e.voice place more) back).cost ≤ voice_weight e.voice + 1 =
     λ more.

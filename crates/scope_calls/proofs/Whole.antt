@@ -1,5 +1,5 @@
 -- Calls of entrances return.
-use Rattle.std.proofs.Common.{◌≡◌, ℕ, ◌+◌, ◌%◌, ◌<◌, ◌≤◌, length, inl, inr, refl, sym, ap}
+use Rattle.std.proofs.Common.{◌≡◌, ℕ, ◌+◌, ◌%◌, ◌<◌, ◌≤◌, length, inl, inr, refl, sym}
 use Rattle.std.proofs.Common.{◌∙◌, subst, arith}
 use Rattle.std.proofs.lemmas.Bool.{and_parts}
 use Rattle.std.specs.Prelude.{slice_index}
@@ -21,7 +21,7 @@ use Rattle.scope_lines.specs.Reach.{nothing_around, has_lines}
 use Rattle.scope_lines.specs.Lowered.{spot}
 use Rattle.scope_calls.specs.Entrances.{entrance_lines, voice_has_lines}
 use Rattle.scope_calls.specs.Listed.{Listed, low_at, layout_at, HasCode, IsCode, IsWellEntered, entrance_desk, meant}
-use Rattle.scope_calls.specs.Listed.{MayStore, AsBlock, AsNumber, AsCall}
+use Rattle.scope_calls.specs.Listed.{MayStore, AsBlock, AsCall}
 use Rattle.scope_calls.specs.EntranceLaws.{EntrancesReturn}
 use Rattle.scope_calls.proofs.Sizing.{parts_stand}
 use Rattle.scope_calls.proofs.Places.{bounds_of, ground_of, code_stands, store_below, store_outside, block_off_stack}
@@ -100,7 +100,6 @@ call_of e at sp well has =
       parts = parts_stand e.entrance (layout_at e).address at ((layout_at e).address e.entrance.label)
           (subst (λ p. LinesAt (layout_at e).address at p (entrance_lines e.entrance)) (sym named)
           (code_stands e at well has));
-      may_store = λ label is. AsNumber label is refl;
       may_call = λ block is. (AsCall block is (inl (upper sp)), AsCall block is (inr (lower sp)));
       few = less sp;
     }

@@ -1,6 +1,6 @@
 -- Entrances that are worked by hand are well entered, their code stands, and what the law says of them.
 use Rattle.std.proofs.Common.{◌≡◌, ◌∙◌, ℕ, ◌+◌, ◌<◌, ◌≤◌, ◌⊎◌, ◌&&◌, ◌||◌}
-use Rattle.std.proofs.Common.{Bool, true, List, [], ◌∷◌, Some, nat_eq, nat_le, inl, inr, refl, sym, ap, subst}
+use Rattle.std.proofs.Common.{Bool, true, List, [], ◌∷◌, nat_eq, nat_le, inl, inr, refl, sym, ap}
 use Rattle.std.proofs.Common.{arith}
 use Rattle.std.specs.Prelude.{slice_index}
 use Rattle.std.proofs.lemmas.Bool.{eqb-true, leb-true, and_parts, or_cases}
@@ -10,13 +10,14 @@ use Rattle.cpu6502.specs.Code.{Holds}
 use Rattle.code_runs.proofs.Laws.{stands_absolute}
 use Rattle.asm6502.specs.Assembly.{assembled_bytes}
 use Rattle.scopes.specs.Meaning.{Done}
-use Rattle.scope_calls.specs.Listed.{Listed, listing_at, layout_at, HasCode, IsCode, IsWellEntered, meant, MayStore}
-use Rattle.scope_calls.specs.Listed.{AsBlock, AsNumber, AsCall}
-use Rattle.scope_calls.specs.EntranceLaws.{Returns, IsApart, entrance_weight, are_known}
+use Rattle.scope_calls.specs.Listed.{Listed, listing_at, HasCode, IsCode, IsWellEntered, meant}
+use Rattle.scope_calls.specs.Listed.{AsBlock, AsCall}
+use Rattle.scope_calls.specs.EntranceLaws.{Returns, entrance_weight, are_known}
 use Rattle.scope_calls.specs.WorkedEntrances.{VoicesAreBlocks, ListingsAgree, IsBlocks, AtSid, AtPointer}
-use Rattle.scope_calls.specs.WorkedEntrances.{VolumeStoresThere, VoicesStoreThere, VolumeIsApart, NumberIsNotApart}
+use Rattle.scope_calls.specs.WorkedEntrances.{VolumeStoresThere, VoicesStoreThere, VolumeIsApart, RegisterIsNotApart}
 use Rattle.scope_calls.specs.WorkedEntrances.{AreAt, machine_of, Leaves, IsCalledSo, volume_entrance, volume_code}
-use Rattle.scope_calls.specs.WorkedEntrances.{VolumeIsCalled, voices_entrance, voices_code, VoicesAreCalled}
+use Rattle.scope_calls.specs.WorkedEntrances.{VolumeIsCalled, NumbersMatter, voices_entrance, voices_code}
+use Rattle.scope_calls.specs.WorkedEntrances.{VoicesAreCalled}
 use Rattle.scope_calls.proofs.Whole.{entrances_return}
 
 abbrev Written : ℕ → Type 0
@@ -83,9 +84,6 @@ called_so e bytes steps left are well code known weighs done steps_are bytes_are
 
 -- ---- the volume
 
-is_three : (label : ℕ) → Some 3 ≡ Some label → 3 ≡ label
-is_three label e = cc
-
 volume_well : IsWellEntered volume_entrance
 volume_well = record {
   lines = refl;
@@ -96,11 +94,8 @@ volume_well = record {
   jump_begins = omega arith;
   jump_ends = omega arith;
   writes_below = λ place may. below place (written_at place may);
-  writes_outside = λ place may. outside place 0x1003 0x100E (omega arith) (omega arith) (written_at place may);
+  writes_outside = λ place may. outside place 0x1003 0x1008 (omega arith) (omega arith) (written_at place may);
   writes_off_stack = λ place may. off_stack place (written_at place may);
-  stored_outside = λ label is.
-      subst (λ l. ((layout_at volume_entrance).address l < 0x1003) ⊎ (0x100E ≤ (layout_at volume_entrance).address l))
-      (is_three label is) (inr (omega arith));
   pointer_low = omega arith;
   pointer_high = omega arith;
 }
@@ -114,9 +109,14 @@ volume_stands memory held = record {
 
 pub volume_is_called : VolumeIsCalled
 volume_is_called =
-    called_so volume_entrance volume_code 6 (λ number. (0x100E, number) ∷ (0xD418, number) ∷ []) refl volume_well
-    volume_stands refl refl (λ cpu memory number. refl) (λ cpu memory number. refl)
-    (λ cpu memory number. (refl, (refl, tt)))
+    called_so volume_entrance volume_code 4 (λ number. (0xD418, number) ∷ []) refl volume_well volume_stands refl refl
+    (λ cpu memory number. refl) (λ cpu memory number. refl) (λ cpu memory number. (refl, tt))
+
+pub numbers_matter : NumbersMatter
+numbers_matter one two number other differ a b alike =
+    let first : slice_index a.after.memory 0xD418 ≡ number = ap (λ s. s.at 0xD418) a.seen in
+    let second : slice_index b.after.memory 0xD418 ≡ other = ap (λ s. s.at 0xD418) b.seen in
+    differ (sym first ∙ (alike.bytes 0xD418 refl ∙ second))
 
 -- ---- the voices
 
@@ -132,7 +132,6 @@ voices_well = record {
   writes_below = λ place may. below place (written_at place may);
   writes_outside = λ place may. outside place 0x1003 0x101A (omega arith) (omega arith) (written_at place may);
   writes_off_stack = λ place may. off_stack place (written_at place may);
-  stored_outside = λ label is. absurd (cc);
   pointer_low = omega arith;
   pointer_high = omega arith;
 }
@@ -154,39 +153,28 @@ voices_are_called =
 -- ---- where they write
 
 pub volume_stores_there : VolumeStoresThere
-volume_stores_there sp place (AsBlock may) = inl (written_at place may)
-volume_stores_there sp place (AsNumber label stored is) =
-    inr (sym (subst (λ l. (layout_at volume_entrance).address l ≡ place) (sym (is_three label stored)) is))
+volume_stores_there sp place (AsBlock may) = written_at place may
 volume_stores_there sp place (AsCall block voice is) = absurd (cc)
 
 pub voices_store_there : VoicesStoreThere
 voices_store_there place (AsBlock may) = inl (written_at place may)
-voices_store_there place (AsNumber label stored is) = absurd (cc)
 voices_store_there place (AsCall block voice (inl is)) = inr (inl is)
 voices_store_there place (AsCall block voice (inr is)) = inr (inr is)
 
-pub number_is_not_apart : NumberIsNotApart
-number_is_not_apart apart = apart.stored 3 refl refl
+pub register_is_not_apart : RegisterIsNotApart
+register_is_not_apart apart = apart refl
 
-code_is_below : (place : ℕ) → IsCode volume_entrance place → (0x1000 ≤ place) × (place < 0x100E)
+code_is_below : (place : ℕ) → IsCode volume_entrance place → (0x1000 ≤ place) × (place < 0x1008)
 code_is_below place (inl at) = (at.0, omega (arith, at.1))
 code_is_below place (inr at) = (omega (arith, at.0), omega (arith, at.1))
 
-unwritten : (place : ℕ) → 0x1000 ≤ place → place < 0x100E → Written place → ⊥
+unwritten : (place : ℕ) → 0x1000 ≤ place → place < 0x1008 → Written place → ⊥
 unwritten place low high (AtSid from to) = omega (arith, high, from)
 unwritten place low high (AtPointer from to) = omega (arith, low, to)
 
 pub volume_is_apart : VolumeIsApart
-volume_is_apart place is =
-    let at = code_is_below place is in
-    record {
-      blocks = λ may. unwritten place at.0 at.1 (written_at place may);
-      stored = λ label stored there. other place at.1
-          (subst (λ l. (layout_at volume_entrance).address l ≡ place) (sym (is_three label stored)) there);
-    }
-  where
-    other : (place : ℕ) → place < 0x100E → 0x100E ≡ place → ⊥
-    other place high e = omega (arith, high, e)
+volume_is_apart place is may =
+    (let at = code_is_below place is in unwritten place at.0 at.1 (written_at place may))
 
 pub voices_are_blocks : VoicesAreBlocks
 voices_are_blocks = record { none = refl; block = refl; end_too_many = refl }
@@ -194,8 +182,8 @@ voices_are_blocks = record { none = refl; block = refl; end_too_many = refl }
 pub listings_agree : ListingsAgree
 listings_agree = record {
   behind = λ one two same. record { at = λ place in_listing. same place (λ e. behind_end place in_listing.1 e) };
-  inside = λ one two other agree. other (agree.at 0x100E (omega arith, omega arith));
+  inside = λ one two other agree. other (agree.at 0x1007 (omega arith, omega arith));
 }
   where
-    behind_end : (place : ℕ) → place < 0x100F → place ≡ 0x100F → ⊥
+    behind_end : (place : ℕ) → place < 0x1008 → place ≡ 0x1008 → ⊥
     behind_end place low e = omega (arith, low, e)

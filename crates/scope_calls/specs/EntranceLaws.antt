@@ -1,7 +1,7 @@
 -- What calls of entrances do: they return in the machine whose memory is what the entrance means, depend on the bytes
 -- that they may read alone, and leave the code that stands apart. This is the project's own form of player code.
 use Rattle.std.specs.Prelude.{◌≡◌, ◌≢◌, ℕ, ◌+◌, ◌*◌, ◌<◌, ◌≤◌, ◌⊎◌, ◌&&◌}
-use Rattle.std.specs.Prelude.{Bool, true, false, Option, Some, None, length, slice_index, All}
+use Rattle.std.specs.Prelude.{Bool, true, false, Option, Some, None, length, slice_index, All, if◌then◌else◌}
 use Rattle.cpu6502.specs.declared.effect.Write.{Write}
 use Rattle.cpu6502.specs.declared.machine.Machine.{Machine}
 use Rattle.cpu6502.specs.declared.memory.TheConstants.{MEMORY_SIZE}
@@ -14,7 +14,6 @@ use Rattle.scope_lines.specs.Known.{Known, nothing, the_a, the_x, shown, either,
 use Rattle.scope_lines.specs.Lowered.{writes_at, spot}
 use Rattle.code_runs.specs.Runs.{view}
 use Rattle.scope_calls.specs.Entrances.{Entrance}
-use Rattle.scope_calls.specs.Meaning.{lead_steps}
 use Rattle.scope_calls.specs.Listed.{Listed, InListing, layout_at, HasCode, IsCode, IsWellEntered, meant, MayStore}
 
 -- a call at an entrance with a number in A returns: the memory, the registers and the flags are what the entrance
@@ -40,14 +39,14 @@ EntrancesReturn =
 
 -- ---- how long
 
--- the instructions of a call are at most those of each block's weight, and those around them: JMP and RTS, two loads of
--- X, calls and returns, and a third load
+-- the instructions of a call are at most those of each block's weight, and those around them: JMP, CLD and RTS, two
+-- loads of X, calls and returns, and a third load
 abbrev pub voice_weight : Option Tree → ℕ
 voice_weight None = 0
 voice_weight (Some block) = 3 * weight block + 7
 
 abbrev pub entrance_weight : Entrance → ℕ
-entrance_weight e = lead_steps e.stored + weight e.first + voice_weight e.voice + 2
+entrance_weight e = weight e.first + voice_weight e.voice + 3
 
 abbrev pub CallsAreShort : Type 0
 CallsAreShort =
@@ -56,10 +55,9 @@ CallsAreShort =
 
 -- ---- on what it depends
 
--- what is known in front of the first block: A, where it is stored
-abbrev pub known_first : Option ℕ → Known
-known_first None = nothing
-known_first (Some label) = the_a
+-- what is known in front of the first block: A, where it is the number of the call
+abbrev pub known_first : Bool → Known
+known_first numbered = if numbered then the_a else nothing
 
 -- and in front of a voice's: X, and the flags that show it
 abbrev pub voice_is_known : Option Tree → Bool
@@ -68,7 +66,7 @@ voice_is_known (Some block) = (known block (either the_x shown)).reads_known
 
 -- the blocks read what is known alone
 abbrev pub are_known : Entrance → Bool
-are_known e = (known e.first (known_first e.stored)).reads_known && voice_is_known e.voice
+are_known e = (known e.first (known_first e.numbered)).reads_known && voice_is_known e.voice
 
 -- two machines have the same bytes where the blocks may read, of which none is on the stack
 pub record AgreeOnBytes (e : Listed) (one two : Machine) : Type 0 where
@@ -82,12 +80,12 @@ pub record AreAlike (e : Listed) (one two : Machine) (number other : ℕ) (a : R
   pub bytes : (place : ℕ) → e.may_read place ≡ true →
       slice_index a.after.memory place ≡ slice_index b.after.memory place
 
--- so they do in two such machines, with the same number where it is stored, whatever else is in the registers, the
--- flags, the pointer and the rest of memory
+-- so they do in two such machines, with the same number where the block may rest on it, whatever else is in the
+-- registers, the flags, the pointer and the rest of memory
 abbrev pub EntrancesAreIsolated : Type 0
 EntrancesAreIsolated =
     (e : Listed) (one two : Machine) (number other : ℕ) → IsWellEntered e → are_known e.entrance ≡ true →
-    AgreeOnBytes e one two → ((label : ℕ) → e.entrance.stored ≡ Some label → number ≡ other) →
+    AgreeOnBytes e one two → (e.entrance.numbered ≡ true → number ≡ other) →
     (meant e one number).outcome ≡ Done → (meant e two other).outcome ≡ Done → (a : Returns e one number)
     (b : Returns e two other) → AreAlike e one two number other a b
 
@@ -110,10 +108,9 @@ OthersStay =
     (MayStore e machine.cpu.sp place → ⊥) → place ≢ stack_place machine.cpu.sp →
     place ≢ stack_place (machine.cpu.sp + 255) → slice_index r.after.memory place ≡ slice_index machine.memory place
 
--- a place is none at which the blocks may write, nor the stored byte's
-pub record IsApart (e : Listed) (place : ℕ) : Type 0 where
-  pub blocks : writes_at (layout_at e) place ≢ true
-  pub stored : (label : ℕ) → e.entrance.stored ≡ Some label → (layout_at e).address label ≢ place
+-- a place is none at which the blocks may write
+abbrev pub IsApart : Listed → ℕ → Type 0
+IsApart e place = writes_at (layout_at e) place ≢ true
 
 -- each such byte of the listing is as before
 abbrev pub ListingsStay : Type 0

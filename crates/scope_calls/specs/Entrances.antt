@@ -1,8 +1,8 @@
--- Entrances: code behind a label that clears the decimal flag, perhaps stores A, does the lines of a block, perhaps
--- those of another for each of three voices, and returns. This is the project's own form of player code; its
--- instructions are those of the MOS 6502 programming manual.
+-- Entrances: code behind a label that clears the decimal flag, does the lines of a block, perhaps those of another for
+-- each of three voices, and returns. This is the project's own form of player code; its instructions are those of the
+-- MOS 6502 programming manual.
 use Rattle.std.specs.Prelude.{◌≡◌, ℕ, ◌+◌, ◌&&◌, Bool, true, List, [], ◌∷◌, ◌++◌, Option, Some, None}
-use Rattle.cpu6502.specs.declared.mnemonic.Mnemonic.TheVariants.{Cld, Jsr, Ldx, Rts, Sta}
+use Rattle.cpu6502.specs.declared.mnemonic.Mnemonic.TheVariants.{Cld, Jsr, Ldx, Rts}
 use Rattle.cpu6502.specs.declared.mnemonic.Mode.TheVariants.{Implied, Immediate, Absolute}
 use Rattle.asm6502.specs.declared.lines.Operand.TheVariants.{Nothing, Number, Label}
 use Rattle.asm6502.specs.declared.lines.Line.{Line}
@@ -13,12 +13,12 @@ use Rattle.scope_lines.specs.Sizes.{size}
 use Rattle.scope_lines.specs.Lines.{block_lines}
 use Rattle.scope_lines.specs.Reach.{nothing_around, has_lines}
 
--- an entrance: the label in front of it, from which both blocks count their places; the label of the byte into which A
--- is stored, if it is; the block that is done once; the one that is done for each voice, if there is one; the place of
--- their pointer, and which of their conditions hold
+-- an entrance: the label in front of it, from which both blocks count their places; whether its calls come with a
+-- number in A, on which the first block may rest; the block that is done once; the one that is done for each voice, if
+-- there is one; the place of their pointer, and which of their conditions hold
 pub record Entrance : Type 0 where
   pub label : ℕ
-  pub stored : Option ℕ
+  pub numbered : Bool
   pub first : Tree
   pub voice : Option Tree
   pub pointer : ℕ
@@ -26,20 +26,19 @@ pub record Entrance : Type 0 where
 
 -- ---- in front of the first block
 
--- CLD, and STA where A is stored
-abbrev pub lead_lines : Option ℕ → List Line
-lead_lines None = code Cld Implied Nothing ∷ []
-lead_lines (Some label) = code Cld Implied Nothing ∷ code Sta Absolute (Label label 0) ∷ []
+-- CLD, whether the calls come with a number or not
+abbrev pub lead_lines : List Line
+lead_lines = code Cld Implied Nothing ∷ []
 
-abbrev pub lead_size : Option ℕ → ℕ
-lead_size None = 1
-lead_size (Some label) = 4
+-- how many bytes behind the label the first block begins
+abbrev pub first_place : ℕ
+first_place = 1
 
 -- ---- the voices
 
 -- how many bytes behind the label the first block ends
 abbrev pub voices_place : Entrance → ℕ
-voices_place e = lead_size e.stored + size e.holds e.first
+voices_place e = first_place + size e.holds e.first
 
 -- the calls: X is 7 times the voice's number. The third voice goes on into the lines that the others call, which stand
 -- 12 bytes further on
@@ -62,7 +61,7 @@ voice_size holds (Some voice) = 12 + size holds voice
 -- the lines from the CLD to the RTS, which stand behind the label
 abbrev pub entrance_lines : Entrance → List Line
 entrance_lines e =
-    lead_lines e.stored ++ (block_lines e.label e.pointer e.holds (lead_size e.stored) e.first
+    lead_lines ++ (block_lines e.label e.pointer e.holds first_place e.first
     ++ (voice_lines e (voices_place e) e.voice ++ code Rts Implied Nothing ∷ []))
 
 abbrev pub entrance_size : Entrance → ℕ

@@ -11,17 +11,12 @@ use Rattle.scope_lines.specs.Homes.{uses_only}
 use Rattle.scope_calls.specs.Entrances.{Entrance, entrance_lines, have_lines}
 
 -- whether an entrance uses no label but these
-abbrev pub stored_uses : (ℕ → Bool) → Option ℕ → Bool
-stored_uses others None = true
-stored_uses others (Some label) = others label
-
 abbrev pub voice_uses : (ℕ → Bool) → Option Tree → Bool
 voice_uses others None = true
 voice_uses others (Some voice) = uses_only others voice
 
 abbrev pub entrance_uses : (ℕ → Bool) → Entrance → Bool
-entrance_uses others e =
-    others e.label && (stored_uses others e.stored && (uses_only others e.first && voice_uses others e.voice))
+entrance_uses others e = others e.label && (uses_only others e.first && voice_uses others e.voice)
 
 -- its lines are at home in any listing that names these labels: each has an opcode and an operand that suits it, uses
 -- labels that are named, and branches to none

@@ -71,7 +71,7 @@ IsCode e place = ((e.entry ≤ place) × (place < e.entry + 3)) ⊎ ((low_at e �
 
 -- the blocks have lines, the listing assembles and stands from $0800 up to $D000, the label is in front of the
 -- entrance's lines, and the jump is in the listing. The blocks write in memory, but nowhere in the entrance's lines and
--- nowhere on the stack, the stored byte is none of these lines, and the pointer is behind the processor's port
+-- nowhere on the stack, and the pointer is behind the processor's port
 pub record IsWellEntered (e : Listed) : Type 0 where
   pub lines : have_lines e.entrance ≡ true
   pub assembles : fault_of e.set e.origin (listing_at e) ≡ None
@@ -83,8 +83,6 @@ pub record IsWellEntered (e : Listed) : Type 0 where
   pub writes_below : (place : ℕ) → writes_at (layout_at e) place ≡ true → place < MEMORY_SIZE
   pub writes_outside : (place : ℕ) → writes_at (layout_at e) place ≡ true → (place < low_at e) ⊎ (high_at e ≤ place)
   pub writes_off_stack : (place : ℕ) → writes_at (layout_at e) place ≡ true → (place < 256) ⊎ (512 ≤ place)
-  pub stored_outside : (label : ℕ) → e.entrance.stored ≡ Some label →
-      ((layout_at e).address label < low_at e) ⊎ (high_at e ≤ (layout_at e).address label)
   pub pointer_low : 2 ≤ e.entrance.pointer
   pub pointer_high : e.entrance.pointer ≤ 254
 
@@ -96,11 +94,9 @@ entrance_desk e machine number = desk_of (view (entered machine e.entry number))
 abbrev pub meant : Listed → Machine → ℕ → Ran
 meant e machine number = entrance_ran (layout_at e) e.entrance (entrance_desk e machine number)
 
--- where a call may write: where the blocks may, at the stored byte, and, where it has voices, at the two bytes of the
--- stack below those that hold its own return address, which is pushed at the stack pointer and one below it
+-- where a call may write: where the blocks may, and, where it has voices, at the two bytes of the stack below those
+-- that hold its own return address, which is pushed at the stack pointer and one below it
 pub data MayStore (e : Listed) (sp place : ℕ) : Type 0 where
   AsBlock : writes_at (layout_at e) place ≡ true → MayStore e sp place
-  AsNumber : (label : ℕ) → e.entrance.stored ≡ Some label → (layout_at e).address label ≡ place →
-      MayStore e sp place
   AsCall : (block : Tree) → e.entrance.voice ≡ Some block →
       (place ≡ stack_place (sp + 254)) ⊎ (place ≡ stack_place (sp + 253)) → MayStore e sp place

@@ -15,10 +15,6 @@ use Rattle.scope_calls.specs.Entrances.{Entrance, voices_place}
 abbrev pub cleared : Desk → Desk
 cleared desk = record { cpu = record desk.cpu { d = false }; at = desk.at }
 
--- A is in a byte
-abbrev pub stored_at : ℕ → Desk → Desk
-stored_at place desk = record { cpu = desk.cpu; at = put desk.at place desk.cpu.a }
-
 -- 7 times a voice's number is in X
 abbrev pub at_voice : ℕ → Desk → Desk
 at_voice voice desk = record { cpu = with_x desk.cpu (7 * voice); at = desk.at }
@@ -35,15 +31,6 @@ abbrev pub returned : Desk → Desk
 returned desk = record { cpu = record desk.cpu { sp = (desk.cpu.sp + 2) % 256 }; at = desk.at }
 
 -- ---- the parts of an entrance
-
--- what is in front of the first block, and in how many instructions
-abbrev pub led : Layout → Option ℕ → Desk → Desk
-led layout None desk = cleared desk
-led layout (Some label) desk = stored_at (layout.address label) (cleared desk)
-
-abbrev pub lead_steps : Option ℕ → ℕ
-lead_steps None = 1
-lead_steps (Some label) = 2
 
 -- a return, one instruction
 abbrev pub back : Desk → Ran
@@ -67,9 +54,9 @@ voices_ran layout (Some block) place desk =
 
 -- ---- all of it
 
--- from the CLD to behind the RTS. Each part is done behind the end of the one before it alone
+-- from the CLD, one instruction, to behind the RTS. Each part is done behind the end of the one before it alone
 abbrev pub entrance_ran : Layout → Entrance → Desk → Ran
 entrance_ran layout e desk =
-    paid (lead_steps e.stored)
-    (and_then (ran each_one layout e.first (led layout e.stored desk))
+    paid 1
+    (and_then (ran each_one layout e.first (cleared desk))
     (λ done. and_then (voices_ran layout e.voice (layout.address e.label + voices_place e) done) back))

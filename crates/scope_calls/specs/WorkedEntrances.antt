@@ -1,16 +1,15 @@
--- Entrances that are worked by hand at $1000: one that sets the volume to the number of the call, which is stored, and
--- one whose three voices each write X into a register of their own. Both are well entered, so what the law on entrances
--- asks can be met. Source: the MOS 6502 programming manual.
-use Rattle.std.specs.Prelude.{◌≡◌, ◌≢◌, ℕ, ◌⊎◌, ◌≤◌, ◌&&◌, true, false, nat_eq, nat_le}
+-- Entrances that are worked by hand at $1000: one that sets the volume to the number of the call, and one whose three
+-- voices each write X into a register of their own. Both are well entered, so what the law on entrances asks can be
+-- met. Source: the MOS 6502 programming manual.
+use Rattle.std.specs.Prelude.{◌≡◌, ◌≢◌, ℕ, ◌⊎◌, ◌≤◌, ◌&&◌, Bool, true, false, not, nat_eq, nat_le}
 use Rattle.std.specs.Prelude.{List, [], ◌∷◌, Some, None, length, slice_index}
 use Rattle.cpu6502.specs.declared.cpu.Cpu.{Cpu}
 use Rattle.cpu6502.specs.declared.machine.Machine.{Machine}
 use Rattle.cpu6502.specs.declared.memory.TheConstants.{MEMORY_SIZE}
-use Rattle.cpu6502.specs.declared.mnemonic.Mnemonic.TheVariants.{Jmp, Jsr, Lda, Sta, Sty, Txa}
+use Rattle.cpu6502.specs.declared.mnemonic.Mnemonic.TheVariants.{Jmp, Jsr, Lda, Sta, Stx, Sty, Txa}
 use Rattle.cpu6502.specs.declared.mnemonic.Mode.TheVariants.{Absolute}
 use Rattle.cpu6502.specs.Code.{Holds}
-use Rattle.asm6502.specs.declared.lines.Item.TheVariants.{Label as Named, Bytes}
-use Rattle.asm6502.specs.declared.lines.Line.{Line}
+use Rattle.asm6502.specs.declared.lines.Item.TheVariants.{Label as Named}
 use Rattle.asm6502.specs.declared.lines.Operand.TheVariants.{Label}
 use Rattle.asm6502.specs.Assembly.{assembled_bytes}
 use Rattle.scopes.specs.declared.line.Line.TheVariants.{Do, End}
@@ -22,7 +21,7 @@ use Rattle.scope_lines.specs.Instructions.{code}
 use Rattle.scope_calls.specs.Entrances.{Entrance, have_lines}
 use Rattle.scope_calls.specs.Meaning.{entrance_ran}
 use Rattle.scope_calls.specs.Listed.{Listed, listing_at, HasCode, IsCode, IsWellEntered, MayStore}
-use Rattle.scope_calls.specs.EntranceLaws.{Returns, IsApart, AgreeOnListing, entrance_weight, are_known}
+use Rattle.scope_calls.specs.EntranceLaws.{Returns, IsApart, AreAlike, AgreeOnListing, entrance_weight, are_known}
 use Rattle.scope_calls.specs.Homes.{entrance_uses}
 use Rattle.scope_calls.specs.Written.{is_voice}
 
@@ -61,45 +60,37 @@ pub record IsCalledSo (e : Listed) (bytes : List ℕ) (steps : ℕ) (left : ℕ 
 abbrev pub plain_entrance : Entrance
 plain_entrance = record {
   label = 1;
-  stored = None;
+  numbered = false;
   first = NeverTree;
   voice = None;
   pointer = 0xFC;
   holds = λ condition. false;
 }
 
--- at $1000, with a jump to label 1 in front. It reads the byte under label 3, and writes the SID's registers
-abbrev pub listed : Entrance → List Line → Listed
-listed entrance back = record {
+-- at $1000, with a jump to label 1 in front. It may write the SID's registers, and read the volume alone
+abbrev pub listed : Entrance → Listed
+listed entrance = record {
   front = code Jmp Absolute (Label 1 0) ∷ record { part = 255; item = Named 1 } ∷ [];
   entrance = entrance;
-  back = back;
+  back = [];
   set = 0;
   origin = 0x1000;
   entry = 0x1000;
-  may_read = λ place. nat_eq place 0x100E;
+  may_read = λ place. nat_eq place 0xD418;
   may_write = λ place. nat_le 0xD400 place && nat_le place 0xD418;
 }
 
--- the number is stored under label 3, which stands behind it, and becomes the volume
+-- the number becomes the volume
 abbrev pub volume_entrance : Listed
-volume_entrance =
-    listed
-    (record plain_entrance {
-      stored = Some 3;
-      first = ThenTree (WithTree Lda (Var 3)) (WithTree Sta (Register 24));
-    })
-    (record { part = 255; item = Named 3 } ∷ record { part = 255; item = Bytes (0 ∷ []) } ∷ [])
+volume_entrance = listed (record plain_entrance { numbered = true; first = WithTree Sta (Register 24) })
 
--- JMP $1003, CLD, STA $100E, LDA $100E, STA $D418, RTS, and the byte
+-- JMP $1003, CLD, STA $D418, RTS
 abbrev pub volume_code : List ℕ
-volume_code =
-    0x4C ∷ 0x03 ∷ 0x10 ∷ 0xD8 ∷ 0x8D ∷ 0x0E ∷ 0x10 ∷ 0xAD ∷ 0x0E ∷ 0x10 ∷ 0x8D ∷ 0x18 ∷ 0xD4
-    ∷ 0x60 ∷ 0x00 ∷ []
+volume_code = 0x4C ∷ 0x03 ∷ 0x10 ∷ 0xD8 ∷ 0x8D ∷ 0x18 ∷ 0xD4 ∷ 0x60 ∷ []
 
--- six steps
+-- four steps
 abbrev pub VolumeIsCalled : Type 0
-VolumeIsCalled = IsCalledSo volume_entrance volume_code 6 (λ number. (0x100E, number) ∷ (0xD418, number) ∷ [])
+VolumeIsCalled = IsCalledSo volume_entrance volume_code 4 (λ number. (0xD418, number) ∷ [])
 
 -- the volume is 15, and each voice's control is X
 abbrev pub voices_entrance : Listed
@@ -109,7 +100,6 @@ voices_entrance =
       first = ThenTree (WithTree Lda (Number 15)) (WithTree Sta (Register 24));
       voice = Some (ThenTree (DoTree Txa) (WithTree Sta (OwnRegister 4)));
     })
-    []
 
 -- JMP $1003, CLD, LDA #$0F, STA $D418, LDX #$00, JSR $1015, LDX #$07, JSR $1015, LDX #$0E, at $1015 TXA, STA $D404,X,
 -- RTS
@@ -126,6 +116,12 @@ VoicesAreCalled =
     IsCalledSo voices_entrance voices_code 18
     (λ number. (0xD418, 15) ∷ (0xD404, 0) ∷ (0xD40B, 7) ∷ (0xD412, 14) ∷ (0x01FD, 0x10) ∷ (0x01FC, 0x12) ∷ [])
 
+-- two calls with different numbers aren't alike: each has left its own as the volume
+abbrev pub NumbersMatter : Type 0
+NumbersMatter =
+    (one two : Machine) (number other : ℕ) → number ≢ other → (a : Returns volume_entrance one number)
+    (b : Returns volume_entrance two other) → AreAlike volume_entrance one two number other a b → ⊥
+
 -- ---- what is none, or comes to no return
 
 -- a block with a call has no lines, nor has one that leaves a scope that isn't around it
@@ -135,19 +131,28 @@ NoCallInBlocks = have_lines (record plain_entrance { voice = Some (WithTree Jsr 
 abbrev pub NothingIsAround : Type 0
 NothingIsAround = have_lines (record plain_entrance { first = LeaveTree 0; voice = Some NeverTree }) ≡ false
 
--- A isn't known in front of the first block where it isn't stored, nor Y in front of a voice's
+-- A isn't known in front of the first block where calls come with no number, nor X where they do, nor Y in front of a
+-- voice's
 abbrev pub AIsNotKnown : Type 0
-AIsNotKnown = are_known (record plain_entrance { first = WithTree Sta (Register 24) }) ≡ false
+AIsNotKnown = are_known (record volume_entrance.entrance { numbered = false }) ≡ false
+
+abbrev pub XIsNotKnown : Type 0
+XIsNotKnown = are_known (record volume_entrance.entrance { first = WithTree Stx (Register 24) }) ≡ false
 
 abbrev pub YIsNotKnown : Type 0
 YIsNotKnown = are_known (record plain_entrance { voice = Some (WithTree Sty (Register 24)) }) ≡ false
 
--- an entrance uses the label that it counts from, the stored byte's, and those of its blocks
-abbrev pub LabelsAreUsed : Type 0
-LabelsAreUsed = entrance_uses (λ label. nat_le 1 label && nat_le label 3) volume_entrance.entrance ≡ true
+-- an entrance uses the label that it counts from, 1, and those of its blocks, here 2 and 3, and no other
+abbrev pub labels_within : (ℕ → Bool) → Bool
+labels_within others =
+    entrance_uses others
+    (record plain_entrance { first = WithTree Lda (Var 2); voice = Some (WithTree Lda (Var 3)) })
 
-abbrev pub StoredIsUsed : Type 0
-StoredIsUsed = entrance_uses (λ label. nat_eq label 1) (record plain_entrance { stored = Some 3 }) ≡ false
+pub record LabelsAreUsed : Type 0 where
+  pub no_other : labels_within (λ label. nat_le 1 label && nat_le label 3) ≡ true
+  pub label : labels_within (λ label. not (nat_eq label 1)) ≡ false
+  pub first : labels_within (λ label. not (nat_eq label 2)) ≡ false
+  pub voice : labels_within (λ label. not (nat_eq label 3)) ≡ false
 
 -- a block that doesn't come to its end goes on to nothing: not the first one, and none of a voice's
 abbrev pub FirstMustEnd : Type 0
@@ -160,25 +165,25 @@ VoicesMustEnd =
     (layout : Layout) (desk : Desk) →
     (entrance_ran layout (record plain_entrance { first = NoneTree; voice = Some NeverTree }) desk).outcome ≡ Stuck
 
--- where a call may write: a SID register or a byte of the pointer; and, of a call with the stack pointer $FF, the
--- number's byte, or the two of the stack, alone
+-- where a call may write: a SID register or a byte of the pointer; and, where it has voices, of a call with the stack
+-- pointer $FF the two bytes of the stack, alone
 pub data IsBlocks (place : ℕ) : Type 0 where
   AtSid : 0xD400 ≤ place → place ≤ 0xD418 → IsBlocks place
   AtPointer : 0xFC ≤ place → place ≤ 0xFD → IsBlocks place
 
 abbrev pub VolumeStoresThere : Type 0
-VolumeStoresThere = (sp place : ℕ) → MayStore volume_entrance sp place → IsBlocks place ⊎ (place ≡ 0x100E)
+VolumeStoresThere = (sp place : ℕ) → MayStore volume_entrance sp place → IsBlocks place
 
 abbrev pub VoicesStoreThere : Type 0
 VoicesStoreThere =
     (place : ℕ) → MayStore voices_entrance 0xFF place → IsBlocks place ⊎ ((place ≡ 0x01FD) ⊎ (place ≡ 0x01FC))
 
--- the code is apart from what a call writes, and the number's byte isn't
+-- the code is apart from what a call writes, and the volume isn't
 abbrev pub VolumeIsApart : Type 0
 VolumeIsApart = (place : ℕ) → IsCode volume_entrance place → IsApart volume_entrance place
 
-abbrev pub NumberIsNotApart : Type 0
-NumberIsNotApart = IsApart volume_entrance 0x100E → ⊥
+abbrev pub RegisterIsNotApart : Type 0
+RegisterIsNotApart = IsApart volume_entrance 0xD418 → ⊥
 
 -- which lines may be done for each voice: a block's, or none
 pub record VoicesAreBlocks : Type 0 where
@@ -191,8 +196,8 @@ abbrev pub IsOtherAt : ℕ → Machine → Machine → Type 0
 IsOtherAt other one two =
     (place : ℕ) → place ≢ other → slice_index one.memory place ≡ slice_index two.memory place
 
--- another byte behind the listing is no matter, and one in it is: it ends at $100F
+-- another byte behind the listing is no matter, and one in it is: it ends at $1008
 pub record ListingsAgree : Type 0 where
-  pub behind : (one two : Machine) → IsOtherAt 0x100F one two → AgreeOnListing volume_entrance one two
-  pub inside : (one two : Machine) → slice_index one.memory 0x100E ≢ slice_index two.memory 0x100E →
+  pub behind : (one two : Machine) → IsOtherAt 0x1008 one two → AgreeOnListing volume_entrance one two
+  pub inside : (one two : Machine) → slice_index one.memory 0x1007 ≢ slice_index two.memory 0x1007 →
       AgreeOnListing volume_entrance one two → ⊥

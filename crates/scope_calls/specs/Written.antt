@@ -10,7 +10,7 @@ use Rattle.scope_calls.specs.Entrances.{Entrance}
 abbrev pub entrance_of : Setup → List Line → Option (List Line) → Entrance
 entrance_of setup first voice = record {
   label = setup.label;
-  stored = setup.stored;
+  numbered = setup.numbered;
   first = tree_of first;
   voice = option_map tree_of voice;
   pointer = setup.pointer;

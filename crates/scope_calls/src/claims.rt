@@ -4,16 +4,17 @@ ghost use Rattle.scope_calls.specs.EntranceLaws.{EntrancesReturn, CallsAreShort,
 ghost use Rattle.scope_calls.specs.EntranceLaws.{OthersStay, ListingsStay, CodeStays, CodeIsShared, FlagsAreClear};
 ghost use Rattle.scope_calls.specs.Entrances.{EntrancesTakeSize};
 ghost use Rattle.scope_calls.specs.Homes.{EntranceLinesAreAtHome, EntranceLinesAreNotRefused};
-ghost use Rattle.scope_calls.specs.WorkedEntrances.{VolumeIsCalled, VoicesAreCalled, VolumeStoresThere};
-ghost use Rattle.scope_calls.specs.WorkedEntrances.{VoicesStoreThere, VolumeIsApart, NumberIsNotApart, NoCallInBlocks};
+ghost use Rattle.scope_calls.specs.WorkedEntrances.{VolumeIsCalled, VoicesAreCalled, NumbersMatter};
+ghost use Rattle.scope_calls.specs.WorkedEntrances.{VolumeStoresThere, VoicesStoreThere, VolumeIsApart};
+ghost use Rattle.scope_calls.specs.WorkedEntrances.{RegisterIsNotApart, NoCallInBlocks};
 ghost use Rattle.scope_calls.specs.WorkedEntrances.{NothingIsAround, ListingsAgree, VoicesAreBlocks};
-ghost use Rattle.scope_calls.specs.WorkedEntrances.{AIsNotKnown, YIsNotKnown, LabelsAreUsed, StoredIsUsed};
+ghost use Rattle.scope_calls.specs.WorkedEntrances.{AIsNotKnown, XIsNotKnown, YIsNotKnown, LabelsAreUsed};
 ghost use Rattle.scope_calls.specs.WorkedEntrances.{FirstMustEnd, VoicesMustEnd};
 
 /// A machine of 65,536 bytes that holds the code of a well entered entrance, and is called at it with any number in A,
 /// returns in the machine whose memory is what the entrance means, where its blocks come to their ends. The steps are
-/// those that it counts, and the jump; each write is where the blocks may write, at the stored byte, or at the two
-/// bytes of the stack below the call's own return address.
+/// those that it counts, and the jump; each write is where the blocks may write, or at the two bytes of the stack below
+/// the call's own return address.
 #[tactic(auto, using(crate::proofs::Whole::entrances_return))]
 pub fn entrances_return()
     ensures { EntrancesReturn }
@@ -26,14 +27,14 @@ pub fn calls_are_short()
 
 /// Calls of an entrance in two machines that agree on the bytes that its blocks may read, none of them on the stack,
 /// take the same number of steps, and leave the same bytes there, where the blocks read what is known alone, and where
-/// both are called with the same number, if it is stored.
+/// both are called with the same number, if the first block may rest on it.
 pub fn entrances_are_isolated()
     ensures { EntrancesAreIsolated }
 {}
 
 /// Behind a call each byte that it may not write is as before, but for the two bytes of the stack that hold the return
-/// address; so is each byte of the listing where the blocks may not write and that isn't the stored one. The code of an
-/// entrance that none of these bytes is part of still stands; and it stands in each memory with the same listing.
+/// address; so is each byte of the listing where the blocks may not write. The code of an entrance that is apart from
+/// where they may still stands; and it stands in each memory with the same listing.
 pub fn listings_stay()
     ensures others { OthersStay }
     ensures listing { ListingsStay }
@@ -59,31 +60,32 @@ pub fn entrance_lines_are_not_refused()
     ensures not_refused { EntranceLinesAreNotRefused }
 {}
 
-/// Two entrances at `$1000`, worked by hand: one that sets the volume to the number of the call, which it stores, and
-/// one whose three voices each write X into a register of their own. Both are well entered, any machine that holds
-/// their bytes holds their code, and both take as many steps as they may; so what the laws on entrances ask is met
-/// there. And entrances that have no lines, that read what isn't known, that use a label more, and that go on to
-/// nothing.
+/// Two entrances at `$1000`, worked by hand: one that sets the volume to the number of the call, and one whose three
+/// voices each write X into a register of their own. Both are well entered, any machine that holds their bytes holds
+/// their code, and both take as many steps as they may; so what the laws on entrances ask is met there. Two calls of
+/// the first with different numbers aren't alike. And entrances that have no lines, that read what isn't known, that
+/// use a label more, and that go on to nothing.
 pub fn worked_entrances()
     ensures volume { VolumeIsCalled }
     ensures voices { VoicesAreCalled }
     ensures calls { NoCallInBlocks }
     ensures around { NothingIsAround }
+    ensures numbers { NumbersMatter }
     ensures a { AIsNotKnown }
+    ensures x { XIsNotKnown }
     ensures y { YIsNotKnown }
     ensures labels { LabelsAreUsed }
-    ensures stored { StoredIsUsed }
     ensures first { FirstMustEnd }
     ensures each { VoicesMustEnd }
 {}
 
-/// Where the two write, that the code of the first is apart from that, and when two machines have the same listing; and
-/// which lines may be done for each voice.
+/// Where the two write, that the code of the first is apart from that and the volume isn't, and when two machines have
+/// the same listing; and which lines may be done for each voice.
 pub fn worked_places()
     ensures volume { VolumeStoresThere }
     ensures voices { VoicesStoreThere }
     ensures apart { VolumeIsApart }
-    ensures number { NumberIsNotApart }
+    ensures register { RegisterIsNotApart }
     ensures listings { ListingsAgree }
     ensures blocks { VoicesAreBlocks }
 {}

@@ -9,7 +9,8 @@ ghost use Rattle.asm6502.specs.declared.lines.Operand.TheVariants.{Nothing};
 ghost use Rattle.scopes.specs.Trees.{tree_of};
 ghost use Rattle.scope_lines.specs.Instructions.{code};
 ghost use Rattle.scope_lines.specs.Readings.{is_block, holds_in};
-ghost use Rattle.scope_calls.specs.Entrances.{lead_lines, lead_size, voices_place, call_lines, entrance_lines, entrance_size};
+ghost use Rattle.scope_calls.specs.Entrances.{lead_lines, first_place, voices_place, call_lines, entrance_lines};
+ghost use Rattle.scope_calls.specs.Entrances.{entrance_size};
 ghost use Rattle.scope_calls.specs.Written.{entrance_of, is_voice, voice_length};
 
 use asm6502::{Item, Operand};
@@ -18,13 +19,16 @@ use cpu6502::{Mnemonic, Mode};
 use scope_lines::{Conditions, Line, Listing, Place, lower, size_of};
 use std::alloc::Global;
 
+/// How many bytes behind the label the block begins that is done once: behind `CLD`.
+const FIRST_PLACE: u16 = 1;
+
 /// What an entrance is set up with, beside its blocks.
 #[derive(Clone, Copy, Debug)]
 pub struct Setup {
     /// The label in front of the entrance, from which its places are counted.
     pub label: u16,
-    /// The label of the byte into which A is stored, if it is.
-    pub stored: Option<u16>,
+    /// Whether its calls come with a number in A, on which the block that is done once may rest. It changes no line.
+    pub numbered: bool,
     /// The place of the pointer's low byte in page 0, 0 to 254.
     pub pointer: u8,
     /// The conditions that hold.
@@ -41,26 +45,12 @@ fn code(mnemonic: Mnemonic, mode: Mode, operand: Operand) -> asm6502::Line
     }
 }
 
-/// The bytes in front of the first block.
-fn lead_size(stored: Option<u16>) -> u16
-    ensures size { result ≡ lead_size stored }
-    ensures few { result ≤ 4 }
-{
-    match stored {
-        None => 1,
-        Some(_) => 4,
-    }
-}
-
-/// The lines in front of the first block.
-fn lead(alloc: Global, stored: Option<u16>) -> Result<Listing, NoMemory>
-    ensures { IfOk result (λ listing. listing ≡ lead_lines stored) }
+/// The line in front of the first block.
+fn lead(alloc: Global) -> Result<Listing, NoMemory>
+    ensures { IfOk result (λ listing. listing ≡ lead_lines) }
 {
     let mut lines = Listing::new(alloc);
     lines.push(code(Mnemonic::Cld, Mode::Implied, Operand::Nothing))?;
-    if let Some(label) = stored {
-        lines.push(code(Mnemonic::Sta, Mode::Absolute, Operand::Label(label, 0)))?;
-    }
     Ok(lines)
 }
 
@@ -94,7 +84,7 @@ pub fn entrance_size(setup: Setup, first: &[Line], voice: Option<&[Line]>) -> u3
     requires voice_room { voice_length (option_copied voice) ≤ 20000 }
     ensures { result ≡ entrance_size (entrance_of setup first.now (option_copied voice.entry)) }
 {
-    let once = u32::from(lead_size(setup.stored)) + u32::from(size_of(first, setup.conditions)) + 1;
+    let once = u32::from(FIRST_PLACE) + u32::from(size_of(first, setup.conditions)) + 1;
     match voice {
         None => once,
         Some(voice) => once + 12 + u32::from(size_of(voice, setup.conditions)),
@@ -123,15 +113,15 @@ pub fn push_entrance(
 {
     let around = Place {
         label: setup.label,
-        first: lead_size(setup.stored),
+        first: FIRST_PLACE,
         pointer: setup.pointer,
         conditions: setup.conditions,
     };
-    let mut lines = lead(alloc, setup.stored)?;
+    let mut lines = lead(alloc)?;
     let mut block = lower(alloc, first, around)?;
     lines.append(&mut block)?;
     if let Some(voice) = voice {
-        let place = lead_size(setup.stored) + size_of(first, setup.conditions);
+        let place = FIRST_PLACE + size_of(first, setup.conditions);
         let mut call = calls(alloc, setup.label, place)?;
         lines.append(&mut call)?;
         let mut turn = lower(

@@ -1,7 +1,8 @@
 //! Entrances to lowered blocks of scopes: their lines, and what a call of them does.
 //!
-//! An entrance is `CLD`, and `STA` where A is stored into a byte, in front of a block's lines; then, where it has
-//! voices, another block's lines, which are done once for each of three voices with 7 times its number in X; and `RTS`.
+//! An entrance is `CLD` in front of a block's lines; then, where it has voices, another block's lines, which are done
+//! once for each of three voices with 7 times its number in X; and `RTS`. Its first block may rest on the number in A
+//! with which it is called, where it says that its calls come with one.
 //! The layer's one contract: a machine that holds this code and is called at a jump to it comes back, in the machine
 //! whose memory is what the entrance means, in as many steps as it counts, with writes where it may alone.
 //!

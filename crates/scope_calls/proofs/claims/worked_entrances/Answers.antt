@@ -1,7 +1,7 @@
 -- Entrances that are worked by hand.
 use Rattle.std.proofs.Common.{refl}
 use Rattle.scope_calls.proofs.claims.worked_entrances.Goals as goal
-use Rattle.scope_calls.proofs.WorkedEntrances.{volume_is_called, voices_are_called}
+use Rattle.scope_calls.proofs.WorkedEntrances.{volume_is_called, numbers_matter, voices_are_called}
 
 pub returns-clause-volume : goal.returns-clause-volume
 returns-clause-volume c = volume_is_called
@@ -15,17 +15,20 @@ returns-clause-calls c = refl
 pub returns-clause-around : goal.returns-clause-around
 returns-clause-around c = refl
 
+pub returns-clause-numbers : goal.returns-clause-numbers
+returns-clause-numbers c = numbers_matter
+
 pub returns-clause-a : goal.returns-clause-a
 returns-clause-a c = refl
+
+pub returns-clause-x : goal.returns-clause-x
+returns-clause-x c = refl
 
 pub returns-clause-y : goal.returns-clause-y
 returns-clause-y c = refl
 
 pub returns-clause-labels : goal.returns-clause-labels
-returns-clause-labels c = refl
-
-pub returns-clause-stored : goal.returns-clause-stored
-returns-clause-stored c = refl
+returns-clause-labels c = record { no_other = refl; label = refl; first = refl; voice = refl }
 
 pub returns-clause-first : goal.returns-clause-first
 returns-clause-first c = λ layout desk. refl
