@@ -6,10 +6,10 @@ use Rattle.std.proofs.lemmas.Bool.{and_parts, ltb-true}
 use Rattle.scopes.specs.Desk.{Desk, Layout}
 use Rattle.scopes.specs.Meaning.{Done, each_one, ran}
 use Rattle.player_memory.specs.declared.conditions.TheConstants.{INSTRUMENT_VIBRATO, SET_VOLUME, FUNK_TEMPO}
-use Rattle.player_memory.specs.declared.labels.TheConstants.{VARIABLES, FIRST_VARIABLE, SLIDES_LOW, SLIDES_HIGH}
+use Rattle.player_memory.specs.declared.labels.TheConstants.{VARIABLES, FIRST_CLEARED, SLIDES_LOW, SLIDES_HIGH}
 use Rattle.player_memory.specs.declared.variables.Kept.{Kept}
 use Rattle.player_memory.specs.declared.variables.VoiceByte.{VoiceByte}
-use Rattle.player_memory.specs.declared.variables.TheConstants.{VOICE_BYTES, SONG_BYTES}
+use Rattle.player_memory.specs.declared.variables.TheConstants.{VOICE_BYTES, FIRST_SONG_BYTES}
 use Rattle.player_memory.specs.Rooms.{IsRoom, IsList}
 use Rattle.player_memory.specs.Playing.{own_at}
 use Rattle.player_memory.specs.Starting.{VoiceRowsBegin, SongRowsBegin, VoiceBegins, Begins}
@@ -18,7 +18,7 @@ use Rattle.player_text.specs.Texts.{init_tree}
 use Rattle.init_code.specs.InitBlock.{IsOutOf, MayClear, Starts, InitBlockStarts}
 use Rattle.init_code.proofs.Going.{Goes}
 use Rattle.init_code.proofs.Variables.{IsNoVariable}
-use Rattle.init_code.proofs.Beginning.{IsBegun, last_variables, block_begins}
+use Rattle.init_code.proofs.Beginning.{IsBegun, cleared_variables, last_variables, block_begins}
 
 -- ---- a voice's bytes, from the variables
 
@@ -55,32 +55,36 @@ voice_begins : (holds : ℕ → Bool) (tempo address : ℕ) (own vars : ℕ → 
     VoiceBegins holds tempo address own
 voice_begins holds tempo address own vars same begins = record {
   state = rows_begin holds VOICE_BYTES tempo own vars same refl begins.state;
-  song = song_begins SONG_BYTES address own vars same refl begins.song;
+  song = song_begins FIRST_SONG_BYTES address own vars same refl begins.song;
 }
 
 -- a number where a condition holds
 where_on : (holds : Bool) (number other : ℕ) → holds ≡ true → (if holds then number else other) ≡ number
 where_on holds number other on = rw on refl
 
-each_voice : (holds : ℕ → Bool) (start : Start) (address : ℕ → ℕ) (voice : ℕ) → voice < 3 →
-    VoiceBegins holds start.tempo (address voice) (λ label. last_variables holds start address (label + 7 * voice))
-each_voice holds start address zero few =
-    let delay = where_on (holds INSTRUMENT_VIBRATO) 255 0 in record { state = assumption delay; song = assumption }
-each_voice holds start address (suc zero) few =
-    let delay = where_on (holds INSTRUMENT_VIBRATO) 255 0 in record { state = assumption delay; song = assumption }
-each_voice holds start address (suc (suc zero)) few =
-    let delay = where_on (holds INSTRUMENT_VIBRATO) 255 0 in record { state = assumption delay; song = assumption }
-each_voice holds start address (suc (suc (suc more))) never = absurd (omega (arith, never))
+-- the variables at the end, from a memory in front
+abbrev left : Layout → Start → (ℕ → ℕ) → (ℕ → ℕ) → ℕ → ℕ
+left layout start address before = last_variables layout.holds start address (cleared_variables layout before)
 
-begins : (layout : Layout) (start : Start) (address at : ℕ → ℕ) →
-    ((label : ℕ) → label < VARIABLES → at (layout.address label) ≡ last_variables layout.holds start address label) →
+each_voice : (layout : Layout) (start : Start) (address before : ℕ → ℕ) (voice : ℕ) → voice < 3 →
+    VoiceBegins layout.holds start.tempo (address voice) (λ label. left layout start address before (label + 7 * voice))
+each_voice layout start address before zero few =
+    let delay = where_on (layout.holds INSTRUMENT_VIBRATO) 255 0 in record { state = assumption delay; song = assumption }
+each_voice layout start address before (suc zero) few =
+    let delay = where_on (layout.holds INSTRUMENT_VIBRATO) 255 0 in record { state = assumption delay; song = assumption }
+each_voice layout start address before (suc (suc zero)) few =
+    let delay = where_on (layout.holds INSTRUMENT_VIBRATO) 255 0 in record { state = assumption delay; song = assumption }
+each_voice layout start address before (suc (suc (suc more))) never = absurd (omega (arith, never))
+
+begins : (layout : Layout) (start : Start) (address before at : ℕ → ℕ) →
+    ((label : ℕ) → label < VARIABLES → at (layout.address label) ≡ left layout start address before label) →
     Begins layout start.tempo start.funk address at
-begins layout start address at each = record {
+begins layout start address before at each = record {
   voices = λ voice few.
       voice_begins layout.holds start.tempo (address voice) (own_at layout at voice)
-      (λ label. last_variables layout.holds start address (label + 7 * voice))
+      (λ label. left layout start address before (label + 7 * voice))
       (λ label below. each (label + 7 * voice) (omega (arith, few, below)))
-      (each_voice layout.holds start address voice few);
+      (each_voice layout start address before voice few);
   common = (
     λ on. each 90 (omega arith),
     (
@@ -122,7 +126,7 @@ module _ (layout : Layout) (rows : ℕ) (room : IsRoom layout rows) where
   high_out place high label few e = (let to = room.variables.to label few in omega (arith, to, high, e))
 
   slide_stays : (count : ℕ) (start : Start) (address : ℕ → ℕ) (before after : Desk) (label row : ℕ) →
-      IsList layout label rows → row < rows → IsOutOf (layout.address FIRST_VARIABLE) count (layout.address label + row) →
+      IsList layout label rows → row < rows → IsOutOf (layout.address FIRST_CLEARED) count (layout.address label + row) →
       IsBegun layout count start address before after →
       after.at (layout.address label + row) ≡ before.at (layout.address label + row)
   slide_stays count start address before after label row is few out begun =
@@ -137,7 +141,7 @@ module _ (layout : Layout) (rows : ℕ) (room : IsRoom layout rows) where
   starts count start address before clear goes = record {
     ends = goes.ends;
     decimal = goes.to.here.decimal;
-    begins = begins layout start address _ goes.to.here.variables;
+    begins = begins layout start address before.at _ goes.to.here.variables;
     registers = λ register few.
         goes.to.here.others (0xD400 + register) (high_out (0xD400 + register) (omega arith))
         ∙ goes.to.is_past.registers register (omega (arith, few));

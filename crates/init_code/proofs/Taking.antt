@@ -1,8 +1,9 @@
--- The first lines: Y is three times the subtune's number, and the timer is set where that is kept.
-use Rattle.std.proofs.Common.{◌≡◌, ◌≢◌, ◌⊎◌, ℕ, ◌*◌, ◌%◌, ◌<◌, ◌≤◌}
+-- The first lines: where there are several subtunes Y is the number of the subtune's third orderlist; and the timer is set
+-- where that is kept.
+use Rattle.std.proofs.Common.{◌≡◌, ◌≢◌, ◌⊎◌, ℕ, ◌+◌, ◌*◌, ◌%◌, ◌<◌, ◌≤◌}
 use Rattle.std.proofs.Common.{Bool, true, false, nat_le}
 use Rattle.std.proofs.Common.{inl, inr, if◌then◌else◌, refl, ◌∙◌, eq-eqb, arith}
-use Rattle.std.proofs.lemmas.Bool.{lt-leb}
+use Rattle.std.proofs.lemmas.Bool.{lt-leb, both_ways}
 use Rattle.cpu6502.specs.declared.mnemonic.Mnemonic.TheVariants.{Sta, Asl, Adc, Tay, Lda}
 use Rattle.cpu6502.specs.Registers.{with_a, with_y}
 use Rattle.cpu6502.specs.Arithmetic.{added}
@@ -13,23 +14,23 @@ use Rattle.scopes.specs.declared.line.Operand.TheVariants.{Number, Pointer, Time
 use Rattle.scopes.specs.Desk.{Desk, Layout}
 use Rattle.scopes.specs.Meaning.{Outcome, Done}
 use Rattle.scopes.specs.Trees.{Tree, DoTree, WithTree, NoneTree, ThenTree, WhenTree}
-use Rattle.player_memory.specs.declared.conditions.TheConstants.{TIMED}
+use Rattle.player_memory.specs.declared.conditions.TheConstants.{TIMED, SUBTUNES}
 use Rattle.player_text.specs.declared.texts.Start.{Start}
 use Rattle.init_code.specs.InitBlock.{MaySetTimer, IsAtSubtune}
-use Rattle.init_code.proofs.Going.{Goes, loaded, stored, step, step_alone, kept, not_kept, no_more}
+use Rattle.init_code.proofs.Going.{Goes, goes_on, then_goes, loaded, stored, step, step_alone, kept, not_kept, no_more}
 
 -- ---- the subtune's number
 
--- Y is three times the number, and the pointer's low byte alone is another
+-- Y is the third orderlist's, where there are several subtunes, and the pointer's low byte alone is another
 pub record IsTaken (layout : Layout) (subtune : ℕ) (before after : Desk) : Type 0 where
-  pub y : after.cpu.y ≡ 3 * subtune
+  pub y : layout.holds SUBTUNES ≡ true → after.cpu.y ≡ 3 * subtune + 2
   pub decimal : after.cpu.d ≡ false
   pub others : (place : ℕ) → place ≢ layout.pointer → after.at place ≡ before.at place
 
-abbrev pub take_tree : Tree → Tree
-take_tree rest =
-    ThenTree (WithTree Sta (Pointer Low))
-    (ThenTree (DoTree Asl) (ThenTree (WithTree Adc (Pointer Low)) (ThenTree (DoTree Tay) rest)))
+abbrev take_tree : Tree
+take_tree =
+    WhenTree SUBTUNES (ThenTree (WithTree Sta (Pointer Low)) (ThenTree (DoTree Asl)
+    (ThenTree (WithTree Adc (Pointer Low)) (ThenTree (WithTree Adc (Number 2)) NoneTree))))
 
 abbrev pointed : Layout → Desk → Desk
 pointed layout d = stored layout.pointer d
@@ -41,37 +42,72 @@ doubled d =
 abbrev tripled : Layout → Desk → Desk
 tripled layout d = record d { cpu = added d.cpu (d.at layout.pointer) }
 
+abbrev two_more : Desk → Desk
+two_more d = record d { cpu = added d.cpu 2 }
+
 abbrev in_y : Desk → Desk
 in_y d = record d { cpu = with_y d.cpu d.cpu.a }
 
-abbrev taken : Layout → Desk → Desk
-taken layout d = in_y (tripled layout (doubled (pointed layout d)))
+abbrev counted : Layout → Desk → Desk
+counted layout d = two_more (tripled layout (doubled (pointed layout d)))
 
-taken_is : (layout : Layout) (subtune : ℕ) (d : Desk) → IsAtSubtune subtune d →
-    IsTaken layout subtune d (taken layout d)
-taken_is layout subtune d is = record {
-  y = three;
+-- A is the third orderlist's
+record IsCounted (layout : Layout) (subtune : ℕ) (before after : Desk) : Type 0 where
+  a : layout.holds SUBTUNES ≡ true → after.cpu.a ≡ 3 * subtune + 2
+  decimal : after.cpu.d ≡ false
+  others : (place : ℕ) → place ≢ layout.pointer → after.at place ≡ before.at place
+
+counted_is : (layout : Layout) (subtune : ℕ) (d : Desk) → layout.holds SUBTUNES ≡ true →
+    IsAtSubtune layout subtune d → IsCounted layout subtune d (counted layout d)
+counted_is layout subtune d on is = record {
+  a = λ same. last;
   decimal = is.decimal;
   others = λ place away. put_other d.at layout.pointer d.cpu.a place away;
 }
   where
     few : d.cpu.a < 128
-    few = let a = is.a in let b = is.byte in omega (arith, a, b)
+    few = let a = is.a on in let b = is.byte on in omega (arith, a, b)
 
     no_carry : nat_le 128 d.cpu.a ≡ false
     no_carry = lt-leb 128 d.cpu.a few
 
-    three : (taken layout d).cpu.y ≡ 3 * subtune
-    three = rw (no_carry, put_same d.at layout.pointer d.cpu.a) (let a = is.a in let b = is.byte in omega (arith, a, b))
+    -- the triple is below 256
+    no_second : nat_le 256 (2 * d.cpu.a % 256 + d.cpu.a + 0) ≡ false
+    no_second = lt-leb 256 (2 * d.cpu.a % 256 + d.cpu.a + 0) (let a = is.a on in let b = is.byte on in omega (arith, a, b))
+
+    last : (counted layout d).cpu.a ≡ 3 * subtune + 2
+    last =
+        rw (put_same d.at layout.pointer d.cpu.a, no_carry, no_second)
+        (let a = is.a on in let b = is.byte on in omega (arith, a, b))
+
+counts : (layout : Layout) (subtune : ℕ) (d : Desk) → IsAtSubtune layout subtune d →
+    Goes layout take_tree Done (IsCounted layout subtune d) d
+counts layout subtune d is = by_case (layout.holds SUBTUNES) refl
+  where
+    by_case : (z : Bool) → layout.holds SUBTUNES ≡ z → Goes layout take_tree Done (IsCounted layout subtune d) d
+    by_case true on =
+        kept layout SUBTUNES _ Done _ d on
+        (step layout Sta (Pointer Low) _ Done _ d (pointed layout d)
+        (rw (eq-eqb layout.pointer layout.pointer refl) refl)
+        (step_alone layout Asl _ Done _ _ (doubled (pointed layout d)) refl
+        (step layout Adc (Pointer Low) _ Done _ _ (tripled layout (doubled (pointed layout d))) (rw is.decimal refl)
+        (step layout Adc (Number 2) _ Done _ _ (counted layout d) (rw is.decimal refl)
+        (no_more layout _ _ (counted_is layout subtune d on is))))))
+    by_case false off = not_kept layout SUBTUNES _ _ d off (record {
+      a = λ on. absurd (both_ways (layout.holds SUBTUNES) off on);
+      decimal = is.decimal;
+      others = λ place away. refl;
+    })
 
 pub takes : (layout : Layout) (subtune : ℕ) (rest : Tree) (end : Outcome) (P : Desk → Type 0) (d : Desk) →
-    IsAtSubtune subtune d → ((m : Desk) → IsTaken layout subtune d m → Goes layout rest end P m) →
-    Goes layout (take_tree rest) end P d
+    IsAtSubtune layout subtune d → ((m : Desk) → IsTaken layout subtune d m → Goes layout rest end P m) →
+    Goes layout (ThenTree take_tree (ThenTree (DoTree Tay) rest)) end P d
 takes layout subtune rest end P d is follows =
-    step layout Sta (Pointer Low) _ end P d (pointed layout d) (rw (eq-eqb layout.pointer layout.pointer refl) refl)
-    (step_alone layout Asl _ end P _ (doubled (pointed layout d)) refl
-    (step layout Adc (Pointer Low) _ end P _ (tripled layout (doubled (pointed layout d))) (rw is.decimal refl)
-    (step_alone layout Tay rest end P _ (taken layout d) refl (follows _ (taken_is layout subtune d is)))))
+    then_goes layout take_tree _ end P d
+    (goes_on layout take_tree Done _ _ d
+    (λ m its. step_alone layout Tay rest end P m (in_y m) refl
+    (follows (in_y m) (record { y = its.a; decimal = its.decimal; others = its.others })))
+    (counts layout subtune d is))
 
 -- ---- the timer
 

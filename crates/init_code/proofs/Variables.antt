@@ -1,13 +1,12 @@
 -- The variables and the registers on the way, once all are cleared; instruction by instruction.
-use Rattle.std.proofs.Common.{◌≡◌, ◌≢◌, ℕ, ◌+◌, ◌%◌, ◌<◌, Bool, true, false, nat_eq, if◌then◌else◌}
+use Rattle.std.proofs.Common.{◌≡◌, ◌≢◌, ℕ, ◌+◌, ◌%◌, ◌<◌, Bool, true, false, nat_eq, nat_le, if◌then◌else◌}
 use Rattle.std.proofs.Common.{refl, sym, ap, ◌∙◌, arith}
 use Rattle.std.proofs.lemmas.Bool.{eqb-true, eqb-false}
 use Rattle.cpu6502.specs.declared.memory.TheConstants.{MEMORY_SIZE}
-use Rattle.cpu6502.specs.declared.mnemonic.Mnemonic.TheVariants.{Lda, Ldx, Sta, Inc, Dec, Iny, Txa, Clc, Adc, Tax, Cpx}
+use Rattle.cpu6502.specs.declared.mnemonic.Mnemonic.TheVariants.{Lda, Ldx, Sta, Dec, Dey, Txa, Sec, Sbc, Tax}
 use Rattle.cpu6502.specs.declared.cpu.Cpu.{Cpu}
 use Rattle.cpu6502.specs.Registers.{with_a, with_sign_and_zero, with_x, with_y}
 use Rattle.cpu6502.specs.Arithmetic.{added}
-use Rattle.cpu6502.specs.Compares.{compared}
 use Rattle.code_runs.specs.Runs.{put}
 use Rattle.code_runs.proofs.Laws.{put_same, put_other}
 use Rattle.scopes.specs.declared.line.Operand.TheVariants.{Number, Var, Own, Entry}
@@ -66,13 +65,13 @@ ldx_number {layout = layout} {number = number} {rest = rest} {end = end} {P = P}
     step layout Ldx (Number number) rest end P d (record d { cpu = with_x d.cpu number }) refl
     (follows _ (moved (with_x d.cpu number) here here.a_is refl here.y_is here.decimal))
 
-pub iny : {layout : Layout} {past vars : ℕ → ℕ} {a x y : ℕ} {rest : Tree} {end : Outcome} {P : Desk → Type 0}
-    {d : Desk} → y + 1 < 256 → IsHere layout past vars a x y d → Onward layout past vars a x (y + 1) rest end P →
-    Goes layout (ThenTree (DoTree Iny) rest) end P d
-iny {layout = layout} {y = y} {rest = rest} {end = end} {P = P} {d = d} few here follows =
-    step_alone layout Iny rest end P d (record d { cpu = with_y d.cpu ((d.cpu.y + 1) % 256) }) refl
-    (follows _ (moved (with_y d.cpu ((d.cpu.y + 1) % 256)) here here.a_is here.x_is
-    (let is = here.y_is in omega (arith, is, few)) here.decimal))
+pub dey : {layout : Layout} {past vars : ℕ → ℕ} {a x y : ℕ} {rest : Tree} {end : Outcome} {P : Desk → Type 0}
+    {d : Desk} → IsHere layout past vars a x y d → Onward layout past vars a x ((y + 255) % 256) rest end P →
+    Goes layout (ThenTree (DoTree Dey) rest) end P d
+dey {layout = layout} {y = y} {rest = rest} {end = end} {P = P} {d = d} here follows =
+    step_alone layout Dey rest end P d (record d { cpu = with_y d.cpu ((d.cpu.y + 255) % 256) }) refl
+    (follows _ (moved (with_y d.cpu ((d.cpu.y + 255) % 256)) here here.a_is here.x_is
+    (ap (λ n. (n + 255) % 256) here.y_is) here.decimal))
 
 -- ---- where a condition holds
 
@@ -101,6 +100,19 @@ not_put {vars = vars} holds label byte off here = record {
   y_is = here.y_is;
   decimal = here.decimal;
   variables = λ other few. rw off (here.variables other few ∙ sym (same_put vars label other));
+  others = here.others;
+}
+
+-- a byte that is there already is put
+pub with_same : {layout : Layout} {past vars : ℕ → ℕ} {a x y : ℕ} {d : Desk} (label byte : ℕ) → vars label ≡ byte →
+    IsHere layout past vars a x y d → IsHere layout past (put vars label byte) a x y d
+with_same {vars = vars} label byte is here = record {
+  a_is = here.a_is;
+  x_is = here.x_is;
+  y_is = here.y_is;
+  decimal = here.decimal;
+  variables = λ other few.
+      here.variables other few ∙ sym (ap (λ n. put vars label n other) (sym is) ∙ same_put vars label other);
   others = here.others;
 }
 
@@ -194,21 +206,7 @@ module _ (layout : Layout) (rows : ℕ) (room : IsRoom layout rows) (may : MayUs
       (rw (own_place label own here, may.writes (label + x) own.few) refl)
       (follows _ (written d.cpu (label + x) d.cpu.a _ own.few here.a_is here here))
 
-  -- a byte is counted up or down
-  pub inc_own : {past vars : ℕ → ℕ} {a x y label : ℕ} {rest : Tree} {end : Outcome} {P : Desk → Type 0} {d : Desk} →
-      IsVoiceAt layout label x → IsHere layout past vars a x y d →
-      Onward layout past (put vars (label + x) ((vars (label + x) + 1) % 256)) a x y rest end P →
-      Goes layout (ThenTree (WithTree Inc (Own label)) rest) end P d
-  inc_own {x = x} {label = label} {rest = rest} {end = end} {P = P} {d = d} own here follows =
-      step layout Inc (Own label) rest end P d (counted (layout.address (label + x)) byte d)
-      (rw (own_place label own here, may.reads (label + x) own.few, may.writes (label + x) own.few) refl)
-      (follows _ (written (with_sign_and_zero d.cpu byte) (label + x) byte _ own.few
-      (ap (λ n. (n + 1) % 256) (here.variables (label + x) own.few)) here
-      (moved _ here here.a_is here.x_is here.y_is here.decimal)))
-    where
-      byte : ℕ
-      byte = (d.at (layout.address (label + x)) + 1) % 256
-
+  -- a byte is counted down
   pub dec_own : {past vars : ℕ → ℕ} {a x y label : ℕ} {rest : Tree} {end : Outcome} {P : Desk → Type 0} {d : Desk} →
       IsVoiceAt layout label x → IsHere layout past vars a x y d →
       Onward layout past (put vars (label + x) ((vars (label + x) + 255) % 256)) a x y rest end P →
@@ -247,36 +245,32 @@ lda_entry {layout = layout} {y = y} {label = label} {rest = rest} {end = end} {P
 
 abbrev pub next_tree : Tree → Tree
 next_tree rest =
-    ThenTree (DoTree Txa) (ThenTree (DoTree Clc) (ThenTree (WithTree Adc (Number 7)) (ThenTree (DoTree Tax)
-    (ThenTree (WithTree Cpx (Number 21)) rest))))
+    ThenTree (DoTree Txa) (ThenTree (DoTree Sec) (ThenTree (WithTree Sbc (Number 7)) (ThenTree (DoTree Tax) rest)))
 
 abbrev x_in_a : Desk → Desk
 x_in_a d = loaded d.cpu.x d
 
-abbrev no_carry : Desk → Desk
-no_carry d = record d { cpu = record (d.cpu) { c = false } }
+abbrev with_carry : Desk → Desk
+with_carry d = record d { cpu = record (d.cpu) { c = true } }
 
-abbrev seven_more : Desk → Desk
-seven_more d = record d { cpu = added d.cpu 7 }
+abbrev seven_less : Desk → Desk
+seven_less d = record d { cpu = added d.cpu 248 }
 
 abbrev a_in_x : Desk → Desk
 a_in_x d = record d { cpu = with_x d.cpu d.cpu.a }
 
-abbrev x_compared : Desk → Desk
-x_compared d = record d { cpu = compared d.cpu d.cpu.x 21 }
-
--- X is 7 more, and zero says whether that is 21
+-- X is 7 less, and the carry says whether it was as much
 pub next_voice : (layout : Layout) (past vars : ℕ → ℕ) (a x y : ℕ) (rest : Tree) (end : Outcome) (P : Desk → Type 0)
-    (d : Desk) → x + 7 < 256 → IsHere layout past vars a x y d →
-    ((m : Desk) → m.cpu.z ≡ nat_eq ((x + 7 + 235) % 256) 0 → IsHere layout past vars (x + 7) (x + 7) y m →
-    Goes layout rest end P m) → Goes layout (next_tree rest) end P d
-next_voice layout past vars a x y rest end P d few here follows =
+    (d : Desk) → IsHere layout past vars a x y d →
+    ((m : Desk) → m.cpu.c ≡ nat_le 256 (x + 248 + 1) →
+    IsHere layout past vars ((x + 248 + 1) % 256) ((x + 248 + 1) % 256) y m → Goes layout rest end P m) →
+    Goes layout (next_tree rest) end P d
+next_voice layout past vars a x y rest end P d here follows =
     step_alone layout Txa _ end P d (x_in_a d) refl
-    (step_alone layout Clc _ end P _ (no_carry (x_in_a d)) refl
-    (step layout Adc (Number 7) _ end P _ (seven_more (no_carry (x_in_a d))) (rw here.decimal refl)
-    (step_alone layout Tax _ end P _ (a_in_x (seven_more (no_carry (x_in_a d)))) refl
-    (step layout Cpx (Number 21) rest end P _ (x_compared (a_in_x (seven_more (no_carry (x_in_a d))))) refl
-    (follows _ (rw sum refl) (moved _ here sum sum here.y_is here.decimal))))))
+    (step_alone layout Sec _ end P _ (with_carry (x_in_a d)) refl
+    (step layout Sbc (Number 7) _ end P _ (seven_less (with_carry (x_in_a d))) (rw here.decimal refl)
+    (step_alone layout Tax _ end P _ (a_in_x (seven_less (with_carry (x_in_a d)))) refl
+    (follows _ (ap (λ n. nat_le 256 (n + 248 + 1)) here.x_is) (moved _ here sum sum here.y_is here.decimal)))))
   where
-    sum : (d.cpu.x + 7 + 0) % 256 ≡ x + 7
-    sum = let is = here.x_is in omega (arith, is, few)
+    sum : (d.cpu.x + 248 + 1) % 256 ≡ (x + 248 + 1) % 256
+    sum = ap (λ n. (n + 248 + 1) % 256) here.x_is

@@ -3,17 +3,18 @@
 ghost use Rattle.init_code.specs.InitBlock.{InitBlockStarts};
 ghost use Rattle.init_code.specs.WorkedInit.{RunsAreWorked, SiteIsWorked, StartsAreWorked};
 
-/// In any memory with 0 in each variable that it doesn't clear, the code that begins a subtune comes to its end with the
-/// variables that hold something as the subtune begins, each voice with its orderlist, and with the registers 0; it sets
-/// the timer where it is kept, and leaves all else but its pointer.
+/// In any memory with 0 in each variable that it would clear and doesn't, the code that begins a subtune comes to its end
+/// with the variables that hold something as the subtune begins, each voice with its orderlist, which it has already
+/// where there is one subtune alone, and with the registers 0; it sets the timer where it is kept, and leaves all else
+/// but its pointer.
 pub fn init_block_starts()
     ensures { InitBlockStarts }
 {}
 
-/// The code run by hand: the first subtune and the second of two, with the timer and without it, and where no
-/// condition holds, in a memory that is full of other bytes, and where it clears a hundred variables and the others are
-/// 0; with what it leaves, and in how many instructions. What
-/// the law on it asks is met there, and refuses others, as it refuses other bytes behind the code.
+/// The code run by hand in a memory that is full of other bytes: the first subtune and the second of two, with the timer
+/// and without it, and where no other condition holds; one alone, where no condition holds and where all others do; and
+/// where it clears eighty variables and the others are 0; with what it leaves, and in how many instructions. What the
+/// law on it asks is met there, and refuses others, as it refuses other bytes behind the code.
 pub fn worked_subtunes()
     ensures runs { RunsAreWorked }
     ensures site { SiteIsWorked }

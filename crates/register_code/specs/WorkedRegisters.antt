@@ -51,7 +51,7 @@ counted = record {
     row = 0;
     tick = 30;
     gate_timer = 31;
-    instrument = 32;
+    instrument = 13;
     note = 33;
     new_note = 34;
     new_command = 49;
@@ -63,7 +63,7 @@ counted = record {
     vib_time = 55;
     vib_delay = 71;
     wave = 71;
-    gate = 72;
+    gate = 7;
     freq = 74 * 256 + 73;
     last_note = 75;
     wave_ptr = 76;
@@ -73,9 +73,9 @@ counted = record {
     pulse = 15 * 256 + 94;
   };
   common = record {
-    tempo_one = 89;
-    tempo_two = 96;
-    tempo_three = 103;
+    tempo_one = 1;
+    tempo_two = 8;
+    tempo_three = 15;
     funk_one = 111;
     funk_two = 112;
     filter_ptr = 90;
@@ -100,12 +100,12 @@ written = ran each_one from_1000 register_tree counting
 abbrev pub bare_written : Ran
 bare_written = ran each_one bare register_tree counting
 
--- of the pulse width's high byte, $5F, the low four bits count; the waveform $47 is under the mask $48
+-- of the pulse width's high byte, $5F, the low four bits count; the waveform $47 is under the mask $07
 abbrev pub worked_registers : List ℕ
-worked_registers = 73 ∷ 74 ∷ 94 ∷ 0x0F ∷ 0x40 ∷ 53 ∷ 54 ∷ []
+worked_registers = 73 ∷ 74 ∷ 94 ∷ 0x0F ∷ 0x07 ∷ 53 ∷ 54 ∷ []
 
 abbrev pub bare_registers : List ℕ
-bare_registers = 73 ∷ 74 ∷ 0 ∷ 0 ∷ 0x40 ∷ 53 ∷ 54 ∷ []
+bare_registers = 73 ∷ 74 ∷ 0 ∷ 0 ∷ 0x07 ∷ 53 ∷ 54 ∷ []
 
 -- All that the code asks for is there, and the registers are written; with the width 0 where the code of the pulse
 -- table isn't kept.
