@@ -9,8 +9,8 @@ use Rattle.scopes.specs.Desk.{Desk, Layout}
 use Rattle.scopes.specs.Trees.{Tree}
 use Rattle.scopes.specs.Meaning.{Ran, Done, each_one, ran, ended, paid, behind, and_then}
 use Rattle.scope_calls.specs.Entrances.{Entrance, voices_place}
-use Rattle.scope_calls.specs.Meaning.{cleared, at_voice, called_from, returned, led, lead_steps, back, voice_called}
-use Rattle.scope_calls.specs.Meaning.{stored_at, voice_last, voices_ran, entrance_ran}
+use Rattle.scope_calls.specs.Meaning.{cleared, at_voice, called_from, returned, back, voice_called}
+use Rattle.scope_calls.specs.Meaning.{voice_last, voices_ran, entrance_ran}
 use Rattle.frame_code.proofs.Leaving.{StackAlone}
 
 -- a run has come to its end at this desk
@@ -70,15 +70,14 @@ voices_come layout first block place desk after parts =
 -- ---- all of it
 
 -- the same of an entrance, with all that decides what it does
-abbrev whole : Layout → Tree → Option ℕ → Option Tree → ℕ → Desk → Ran
-whole layout first stored voice place desk =
-    paid (lead_steps stored)
-    (and_then (ran each_one layout first (led layout stored desk))
-    (λ done. and_then (voices_ran layout voice place done) back))
+abbrev whole : Layout → Tree → Option Tree → ℕ → Desk → Ran
+whole layout first voice place desk =
+    paid 1
+    (and_then (ran each_one layout first (cleared desk)) (λ done. and_then (voices_ran layout voice place done) back))
 
 whole_comes : (layout : Layout) (first block : Tree) (place : ℕ) (desk after : Desk) →
     PartsCome layout first block (place + 4) (place + 9) desk after →
-    ComesTo (whole layout first None (Some block) place desk) (returned after)
+    ComesTo (whole layout first (Some block) place desk) (returned after)
 whole_comes layout first block place desk after parts =
     comes_paid 1 (and_then (ran each_one layout first (cleared desk)) next) (returned after)
     (comes_then (ran each_one layout first (cleared desk)) next parts.filter (returned after) parts.filter_is
@@ -92,14 +91,12 @@ whole_comes layout first block place desk after parts =
 abbrev pub call_place : Layout → Entrance → ℕ
 call_place layout e = layout.address e.label + voices_place e
 
-pub entrance_comes : (layout : Layout) (e : Entrance) (block : Tree) (desk after : Desk) → e.stored ≡ None →
-    e.voice ≡ Some block →
+pub entrance_comes : (layout : Layout) (e : Entrance) (block : Tree) (desk after : Desk) → e.voice ≡ Some block →
     PartsCome layout e.first block (call_place layout e + 4) (call_place layout e + 9) desk after →
     ComesTo (entrance_ran layout e desk) (returned after)
-entrance_comes layout e block desk after stored voice parts =
-    subst (λ s. ComesTo (whole layout e.first s e.voice (call_place layout e) desk) (returned after)) (sym stored)
-    (subst (λ v. ComesTo (whole layout e.first None v (call_place layout e) desk) (returned after)) (sym voice)
-    (whole_comes layout e.first block (call_place layout e) desk after parts))
+entrance_comes layout e block desk after voice parts =
+    subst (λ v. ComesTo (whole layout e.first v (call_place layout e) desk) (returned after)) (sym voice)
+    (whole_comes layout e.first block (call_place layout e) desk after parts)
 
 -- ---- the stack
 
@@ -118,20 +115,18 @@ calls_stack last voice desk place off =
 
 -- ---- without voices
 
--- where a number is stored and no voice is called, the entrance ends where its block does
-pub beginning_comes : (layout : Layout) (e : Entrance) (label : ℕ) (desk after : Desk) → e.stored ≡ Some label →
-    e.voice ≡ None → ComesTo (ran each_one layout e.first (stored_at (layout.address label) (cleared desk))) after →
-    ComesTo (entrance_ran layout e desk) (returned after)
-beginning_comes layout e label desk after stored voice comes =
-    subst (λ s. ComesTo (whole layout e.first s e.voice (call_place layout e) desk) (returned after)) (sym stored)
-    (subst (λ v. ComesTo (whole layout e.first (Some label) v (call_place layout e) desk) (returned after)) (sym voice)
-    (comes_paid 2 (and_then run next) (returned after)
+-- where no voice is called, the entrance ends where its block does
+pub beginning_comes : (layout : Layout) (e : Entrance) (desk after : Desk) → e.voice ≡ None →
+    ComesTo (ran each_one layout e.first (cleared desk)) after → ComesTo (entrance_ran layout e desk) (returned after)
+beginning_comes layout e desk after voice comes =
+    subst (λ v. ComesTo (whole layout e.first v (call_place layout e) desk) (returned after)) (sym voice)
+    (comes_paid 1 (and_then run next) (returned after)
     (comes_then run next after (returned after) comes
     (comes_then (ended Done after 0) back after (returned after) (record { ends = refl; desk_is = refl })
-    (record { ends = refl; desk_is = refl })))))
+    (record { ends = refl; desk_is = refl }))))
   where
     run : Ran
-    run = ran each_one layout e.first (stored_at (layout.address label) (cleared desk))
+    run = ran each_one layout e.first (cleared desk)
 
     next : Desk → Ran
     next done = and_then (voices_ran layout None (call_place layout e) done) back

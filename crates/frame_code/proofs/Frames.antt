@@ -288,7 +288,7 @@ frames_play layout packed o k x e desk plays is_layout reads holds ready =
     desk
     (subst FilterSteps (sym plays.first) filter_steps) voice_steps start in
     frames layout packed o k x desk came.after (entrance_ran layout e desk) start
-    (entrance_comes layout e voice_tree desk came.after plays.stored plays.voice came.parts) came.behind
+    (entrance_comes layout e voice_tree desk came.after plays.voice came.parts) came.behind
   where
     filter_steps : FilterSteps filter_tree
     filter_steps = filter_block_steps

@@ -1,5 +1,5 @@
 -- The code of a frame, and what it does. This is the project's own player.
-use Rattle.std.specs.Prelude.{◌≡◌, ◌≢◌, ℕ, ◌+◌, ◌<◌, ◌≤◌, ◌⊎◌, Some, None, true}
+use Rattle.std.specs.Prelude.{◌≡◌, ◌≢◌, ℕ, ◌+◌, ◌<◌, ◌≤◌, ◌⊎◌, Some, true}
 use Rattle.std.specs.Prelude.{length, slice_index}
 use Rattle.song_model.specs.LookUp.{table_of}
 use Rattle.song_model.specs.declared.tables.TableName.TheVariants.{Wave, Pulse, Filter}
@@ -26,11 +26,10 @@ use Rattle.voice_code.specs.VoiceBlock.{Counts, HasVoiceLists, KeepsOptions, Voi
 
 -- ---- the entrance
 
--- a frame: the filter, and then each voice; no number is stored
+-- a frame: the filter, and then each voice
 pub record PlaysFrames (e : Entrance) : Type 0 where
   pub first : e.first ≡ filter_tree
   pub voice : e.voice ≡ Some voice_tree
-  pub stored : e.stored ≡ None
 
 -- ---- what a frame is ready for
 

@@ -8,8 +8,8 @@ use Rattle.song_model.specs.declared.orders.Order.{Order}
 use Rattle.play_model.specs.State.{Playing}
 use Rattle.scopes.specs.Desk.{Desk, Layout}
 use Rattle.player_memory.specs.declared.conditions.TheConstants.{REPEATS}
-use Rattle.player_memory.specs.declared.labels.TheConstants.{TICK, NEW_COMMAND, NEW_PARAM, COMMAND, PARAM, WAVE_POINTER}
-use Rattle.player_memory.specs.declared.labels.TheConstants.{REPEAT}
+use Rattle.player_memory.specs.declared.labels.TheConstants.{TICK, TEMPO, NEW_COMMAND, NEW_PARAM, COMMAND, PARAM}
+use Rattle.player_memory.specs.declared.labels.TheConstants.{WAVE_POINTER, REPEAT}
 use Rattle.player_memory.specs.Fetching.{WalkStands, GoesOn, Repeats}
 use Rattle.idle_parts.specs.Idle.{HoldsVoice}
 use Rattle.idle_parts.specs.Fronts.{FrontsEnd, StoredIsLow, CommandsAreFound, EffectsAreFound, NotesAreFound}
@@ -24,7 +24,7 @@ fronts_end {layout} {rows} {voice} {s} {desk} h = record {
       let sees = own_sees h TICK refl in
       let is = own_is h TICK 0 refl ((own_bytes h).tick ∙ over) in
       let writes = own_writes h TICK refl in
-      let sees_tempo = own_sees h 89 refl in
+      let sees_tempo = own_sees h TEMPO refl in
       rw (sees, is, writes, sees_tempo) refl);
   vibrato = λ kept none. (
       let sees = own_sees h COMMAND refl in

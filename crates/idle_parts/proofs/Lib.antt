@@ -12,6 +12,7 @@ mod LeftOut
 -- The lines of the bytes that are kept under a condition.
 mod KeptBytes
 mod KeptStores
+mod KeptOrders
 -- The conditions of variables.
 mod NeededRows
 -- Where they do something.

@@ -60,7 +60,8 @@ parts_are_these = record {
   effects = refl;
   filter_used = refl;
   the_filter_used = refl;
-  volume_begins = λ start variables. refl;
-  delay_begins = λ start variables. refl;
-  funk_begins = λ start variables. refl;
+  orders_begin = λ start cleared. refl;
+  volume_begins = λ start cleared. refl;
+  delay_begins = λ start cleared. refl;
+  funk_begins = λ start cleared. refl;
 }

@@ -13,7 +13,7 @@ use Rattle.player_text.specs.declared.tick.TheConstants.{NOTE_TAKEN}
 use Rattle.idle_parts.specs.Idle.{Carry, HoldsVoice, Idles, part}
 use Rattle.idle_parts.specs.WorkedParts.{PartsAreWorked}
 use Rattle.player_memory.specs.declared.labels.TheConstants.{AD, GATE, PULSE_POINTER, PULSE_TIME, NEW_COMMAND}
-use Rattle.player_memory.specs.declared.labels.TheConstants.{VIB_DELAY}
+use Rattle.player_memory.specs.declared.labels.TheConstants.{VIB_DELAY, ORDER_LOW, ORDER_HIGH}
 use Rattle.player_memory.specs.declared.labels.TheConstants.{TEMPO_THREE, WAVE_TIME, COMMAND, KEPT_PARAM}
 use Rattle.player_memory.specs.declared.labels.TheConstants.{FILTER_POINTER, FILTER_TIME}
 use Rattle.player_memory.specs.declared.labels.TheConstants.{NEW_NOTE, INSTRUMENT, GATE_TIMER, GATE_TIMERS}
@@ -186,6 +186,9 @@ parts_are_worked = record {
   no_load = λ clears. (let a = clears.a_is in absurd (cc));
   with_load = λ i. (let a = i.kept_are.0 in absurd (cc));
   load = λ i. (let a = i.kept_are.0 in absurd (cc));
+  order_low = λ i. (let stays = i.stays ORDER_LOW in absurd (cc));
+  order_high = λ i. (let stays = i.stays ORDER_HIGH in absurd (cc));
+  order_load = λ i. (let a = i.kept_are.0 in absurd (cc));
   runs = λ leaves. (let name : 134 ≡ 132 = ap name_of leaves.goes in absurd (omega (arith, name)));
   stored = λ i. (let stays = i.stays WAVE_TIME tt in absurd (cc));
   stored_timer = λ i. (let stays = i.stays GATE_TIMER tt in absurd (cc));

@@ -18,11 +18,12 @@ use Rattle.player_memory.specs.declared.conditions.TheConstants.{FILTER_USED, SE
 use Rattle.player_memory.specs.declared.conditions.TheConstants.{WAVE_DELAY, NOTE_DEPENDENT, SWINGS, INSTRUMENT_VIBRATO}
 use Rattle.player_memory.specs.declared.conditions.TheConstants.{FUNK_TEMPO, ROW_TONE, ROW_ONCE, WAVE_COMMAND}
 use Rattle.player_memory.specs.declared.conditions.TheConstants.{FILTER_TABLE, EFFECTS, SKIP_FIRST, OWN_TIMER, OWN_WAVE}
+use Rattle.player_memory.specs.declared.conditions.TheConstants.{SUBTUNES}
 use Rattle.player_memory.specs.declared.labels.TheConstants.{NEW_COMMAND, NEW_PARAM, COMMAND, PARAM, VIB_TIME}
 use Rattle.player_memory.specs.declared.labels.TheConstants.{VIB_DELAY}
 use Rattle.player_memory.specs.declared.labels.TheConstants.{LAST_NOTE, WAVE_TIME, VOLUME, FUNK_ONE, FUNK_TWO, VIBRATOS}
 use Rattle.player_memory.specs.declared.labels.TheConstants.{TICK, KEPT_PARAM, GATE_TIMER, GATE_TIMERS, FIRST_WAVES, ONE_TIMER}
-use Rattle.player_memory.specs.declared.labels.TheConstants.{ONE_WAVE}
+use Rattle.player_memory.specs.declared.labels.TheConstants.{ONE_WAVE, ORDERS_LOW, ORDERS_HIGH, ORDER_LOW, ORDER_HIGH}
 use Rattle.player_memory.specs.declared.variables.Kept.{Kept as Row}
 use Rattle.player_memory.specs.declared.variables.Kept.TheVariants.{Always, Where, Else}
 use Rattle.player_memory.specs.declared.variables.VoiceByte.{VoiceByte}
@@ -211,6 +212,19 @@ pub record StoresIdle : Type 0 where
       Stores (Var FUNK_ONE ∷ []) (tree_of (With Lda (Number number) ∷ FUNK_STARTED.now)) (Y ∷ Carry ∷ [])
   pub delay : Stores (Own VIB_DELAY ∷ []) (part INSTRUMENT_VIBRATO 0 VOICE_STARTED.now) (A ∷ Y ∷ Carry ∷ [])
   pub funk_two : Stores (Var FUNK_TWO ∷ []) (part FUNK_TEMPO 0 TEMPO_STARTED.now) (A ∷ Y ∷ Carry ∷ [])
+
+-- ---- orderlists
+
+-- where the voice at X has the address already that the lists have at Y, the lines that take it from there leave each
+-- byte; they change A and Y
+abbrev pub OrdersIdle : Type 0
+OrdersIdle =
+    (layout : Layout) (rows low high : ℕ) (desk : Desk) →
+    IsListed layout rows desk.at ORDERS_LOW desk.cpu.y low → IsListed layout rows desk.at ORDERS_HIGH desk.cpu.y high →
+    MayReach layout (Own ORDER_LOW ∷ Own ORDER_HIGH ∷ []) desk →
+    desk.at (operand_place layout (Own ORDER_LOW) desk) ≡ low →
+    desk.at (operand_place layout (Own ORDER_HIGH) desk) ≡ high →
+    Idles layout (part SUBTUNES 0 VOICE_STARTED.now) desk (Carry ∷ [])
 
 -- ---- where they are read
 

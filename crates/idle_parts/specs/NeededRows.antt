@@ -19,7 +19,7 @@ others_of conditions condition = filter (λ other. not (nat_eq other condition))
 -- whether a line of the player that is kept names a label
 abbrev pub is_named : Start → (ℕ → Bool) → ℕ → Bool
 is_named start holds label =
-    names holds filter_tree label || names holds voice_tree label || names holds (init_tree start 113) label
+    names holds filter_tree label || names holds voice_tree label || names holds (init_tree start 92) label
 
 -- whether a condition of a label's row is needed, each one of a row's, and each one of all rows'
 abbrev pub is_needed : Start → ℕ → List ℕ → ℕ → Bool

@@ -21,7 +21,7 @@ use Rattle.player_memory.specs.declared.conditions.TheConstants.{WAVE_DELAY}
 use Rattle.player_memory.specs.declared.conditions.TheConstants.{GATE_NOTE, NOTE_VIBRATO, VIBRATO_DELAY, NOTE_PULSE}
 use Rattle.player_memory.specs.declared.conditions.TheConstants.{NOTE_FILTER}
 use Rattle.player_memory.specs.declared.conditions.TheConstants.{VOICE_TEMPO, COMMON_TEMPO, FUNK_TURNS, FUNK_CHOICE}
-use Rattle.player_memory.specs.declared.conditions.TheConstants.{OWN_TIMER, OWN_WAVE}
+use Rattle.player_memory.specs.declared.conditions.TheConstants.{OWN_TIMER, OWN_WAVE, SUBTUNES}
 use Rattle.player_memory.specs.declared.conditions.TheConstants.{EFFECTS, FILTER_USED}
 use Rattle.player_text.specs.declared.commands.TheConstants.{AD_SET, CUTOFF_SET, FILTER_CONTROL_SET}
 use Rattle.player_text.specs.declared.commands.TheConstants.{FILTER_POINTER_SET, FUNK_CHOSEN}
@@ -33,7 +33,8 @@ use Rattle.player_text.specs.declared.fetch.TheConstants.{ENTRY_BEGUN, ENTRY_REA
 use Rattle.player_text.specs.declared.filter.TheConstants.{FILTER_STEP, FILTER_REGISTERS}
 use Rattle.player_text.specs.declared.pitch.TheConstants.{PITCH, GIVEN_BACK}
 use Rattle.player_text.specs.declared.pulse.TheConstants.{PULSE}
-use Rattle.player_text.specs.declared.init.TheConstants.{VARIABLES_CLEARED, FUNK_STARTED, VOICE_STARTED, TEMPO_STARTED}
+use Rattle.player_text.specs.declared.init.TheConstants.{SUBTUNE_TAKEN, VARIABLES_CLEARED, FUNK_STARTED}
+use Rattle.player_text.specs.declared.init.TheConstants.{VOICE_STARTED, TEMPO_STARTED}
 use Rattle.player_text.specs.declared.register.TheConstants.{REGISTERS}
 use Rattle.player_text.specs.declared.slide.TheConstants.{CLIMB_STEP, DROP_STEP, FOUND_STEP, PORTA_STEP, RISE_STEP}
 use Rattle.player_text.specs.declared.slide.TheConstants.{SINK_STEP, SPEED_STEP, SWING_STEP, TONE_STEP}
@@ -133,9 +134,11 @@ pub record PartsAreThese : Type 0 where
       ≡ part FILTER_USED 0 FILTER_REGISTERS.now ∷ part FILTER_USED 1 FILTER_REGISTERS.now
       ∷ part FILTER_USED 2 FILTER_REGISTERS.now ∷ []
   -- where a subtune begins: the first funk tempo is one of its numbers
-  pub volume_begins : (start : Start) (variables : ℕ) →
-      bodies SET_VOLUME (init_tree start variables) ≡ part SET_VOLUME 0 VARIABLES_CLEARED.now ∷ []
-  pub delay_begins : (start : Start) (variables : ℕ) →
-      bodies INSTRUMENT_VIBRATO (init_tree start variables) ≡ part INSTRUMENT_VIBRATO 0 VOICE_STARTED.now ∷ []
-  pub funk_begins : (start : Start) (variables : ℕ) → bodies FUNK_TEMPO (init_tree start variables)
+  pub orders_begin : (start : Start) (cleared : ℕ) → bodies SUBTUNES (init_tree start cleared)
+      ≡ part SUBTUNES 0 SUBTUNE_TAKEN.now ∷ part SUBTUNES 0 VOICE_STARTED.now ∷ []
+  pub volume_begins : (start : Start) (cleared : ℕ) →
+      bodies SET_VOLUME (init_tree start cleared) ≡ part SET_VOLUME 0 VARIABLES_CLEARED.now ∷ []
+  pub delay_begins : (start : Start) (cleared : ℕ) →
+      bodies INSTRUMENT_VIBRATO (init_tree start cleared) ≡ part INSTRUMENT_VIBRATO 0 VOICE_STARTED.now ∷ []
+  pub funk_begins : (start : Start) (cleared : ℕ) → bodies FUNK_TEMPO (init_tree start cleared)
       ≡ tree_of (With Lda (Number start.funk) ∷ FUNK_STARTED.now) ∷ part FUNK_TEMPO 0 TEMPO_STARTED.now ∷ []

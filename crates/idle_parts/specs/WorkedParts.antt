@@ -17,10 +17,11 @@ use Rattle.player_memory.specs.declared.conditions.TheConstants.{WAVE_DELAY, SWI
 use Rattle.player_memory.specs.declared.conditions.TheConstants.{HELD_NOTE, NOTE_VIBRATO, VIBRATO_DELAY, NOTE_PULSE}
 use Rattle.player_memory.specs.declared.conditions.TheConstants.{NOTE_FILTER}
 use Rattle.player_memory.specs.declared.conditions.TheConstants.{VOICE_TEMPO, COMMON_TEMPO, FUNK_TURNS, FUNK_CHOICE}
-use Rattle.player_memory.specs.declared.conditions.TheConstants.{SKIP_FIRST, OWN_TIMER, OWN_WAVE}
+use Rattle.player_memory.specs.declared.conditions.TheConstants.{SKIP_FIRST, OWN_TIMER, OWN_WAVE, SUBTUNES}
 use Rattle.player_memory.specs.declared.labels.TheConstants.{AD, NEW_COMMAND, PULSE_TIME, FILTER_TIME, GATE_TIMERS}
 use Rattle.player_memory.specs.declared.labels.TheConstants.{DELAYS, VIBRATOS, PULSES, FILTERS, VIB_TIME, WAVE_TIME}
 use Rattle.player_memory.specs.declared.labels.TheConstants.{COMMAND, NEW_PARAM, PARAM, KEPT_PARAM, ONE_TIMER, ONE_WAVE}
+use Rattle.player_memory.specs.declared.labels.TheConstants.{ORDER_LOW, ORDER_HIGH}
 use Rattle.player_memory.specs.Playing.{IsListed, own_at, shared_at}
 use Rattle.player_text.specs.declared.commands.TheConstants.{AD_SET, TEMPO_SET, FUNK_SET, FUNK_CHOSEN}
 use Rattle.player_text.specs.declared.slide.TheConstants.{PORTA_STEP, TONE_STEP}
@@ -35,6 +36,7 @@ use Rattle.player_text.specs.declared.tick.TheConstants.{GATE_TIMER_SET, NOTE_TA
 use Rattle.player_text.specs.declared.tick.TheConstants.{BARE}
 use Rattle.player_text.specs.declared.wave.TheConstants.{WAVE_STEP}
 use Rattle.player_text.specs.declared.fetch.TheConstants.{ROW_AWAITED, ENTRY_BEGUN, ENTRY_READ, GATE_CLOSED}
+use Rattle.player_text.specs.declared.init.TheConstants.{VOICE_STARTED}
 use Rattle.idle_parts.specs.Idle.{A, Y, Carry, Idles, HoldsVoice, bodies, front, part}
 use Rattle.idle_parts.specs.Fronts.{Finds}
 use Rattle.idle_parts.specs.Places.{leaves, may_end}
@@ -195,6 +197,10 @@ pub record PartsAreWorked : Type 0 where
   pub no_load : ¬ Clears without_effects (part ROW_COMMAND 1 COMMAND_BEGUN.now) (desk_with 1 0) Done
   pub with_load : ¬ Idles flat (part ROW_COMMAND 1 COMMAND_BEGUN.now) (desk_with 1 0) (A ∷ [])
   pub load : ¬ Idles flat (part EFFECTS 0 COMMAND_BEGUN.now) (desk_with 1 0) (A ∷ [])
+  -- a voice that has another byte of its orderlist's address than the lists have takes theirs; and A changes
+  pub order_low : ¬ Idles flat (part SUBTUNES 0 VOICE_STARTED.now) (desk_but ORDER_LOW 3 0) []
+  pub order_high : ¬ Idles flat (part SUBTUNES 0 VOICE_STARTED.now) (desk_but ORDER_HIGH 3 0) []
+  pub order_load : ¬ Idles flat (part SUBTUNES 0 VOICE_STARTED.now) (desk_with 0 0) (A ∷ [])
   -- a voice with command 2 goes on to the effect step
   pub runs : ¬ LeavesAll flat (part EFFECTS 0 EFFECT_BEGUN.now) (desk_with 0 0) EFFECTED
   -- a store that isn't named changes a byte, and one that is may change A

@@ -11,7 +11,8 @@ ghost use Rattle.idle_parts.specs.Fronts.{FrontsEnd, StoredIsLow, CommandsAreFou
 ghost use Rattle.idle_parts.specs.Fronts.{NotesAreFound, LentAreFound, PlaysAreFound};
 ghost use Rattle.idle_parts.specs.PartList.{PartsAreThese};
 ghost use Rattle.idle_parts.specs.Places.{PartsAreComeTo, OnceIsComeTo, RowsLeave, SlidesLeave, RowsEnd};
-ghost use Rattle.idle_parts.specs.KeptBytes.{FilterLoads, VoiceLoads, StoresIdle, ReadWhereKept, PairsAreKept};
+ghost use Rattle.idle_parts.specs.KeptBytes.{FilterLoads, VoiceLoads, StoresIdle, OrdersIdle};
+ghost use Rattle.idle_parts.specs.KeptBytes.{ReadWhereKept, PairsAreKept};
 ghost use Rattle.player_text.specs.declared.texts.Start.{Start};
 ghost use Rattle.idle_parts.specs.NeededRows.{RowsAreNeeded};
 ghost use Rattle.idle_parts.specs.WorkedParts.{PartsAreWorked};
@@ -64,12 +65,14 @@ pub fn parts_can_be_left_out()
 
 /// Of the bytes that are kept under a condition alone: the lines that load one are idle where it holds what it would
 /// stand for without them; those that store one change nothing else, and a choice's two sides leave the same but what
-/// one of them stores, too; each that reads one stands under its condition, or under another that keeps it; and
-/// whatever a song asks for, that one is held with the other.
+/// one of them stores, too; those that take an orderlist's address leave it where it stands already; each that reads
+/// one stands under its condition, or under another that keeps it; and whatever a song asks for, that one is held with
+/// the other.
 pub fn bytes_can_be_left_out()
     ensures filter { FilterLoads }
     ensures voice { VoiceLoads }
     ensures stores { StoresIdle }
+    ensures orders { OrdersIdle }
     ensures reads { ReadWhereKept }
     ensures pairs { PairsAreKept }
 {}

@@ -1,7 +1,7 @@
 -- What the definitions of the two entrances take, and what they refuse.
 use Rattle.std.proofs.Common.{◌≡◌, ◌⊎◌, ℕ, ◌+◌, ◌-◌, ◌%◌, ◌<◌, ◌≤◌, Bool, if◌then◌else◌}
 use Rattle.std.proofs.Common.{List, [], ◌∷◌, ◌++◌, slice_index}
-use Rattle.std.proofs.Common.{Option, Some, None, inl, inr, refl, sym, ap, ◌∙◌, arith, nat_eq, nat_le}
+use Rattle.std.proofs.Common.{Some, None, inl, inr, refl, sym, ap, ◌∙◌, arith, nat_eq, nat_le}
 use Rattle.std.proofs.lemmas.Bool.{or_cases, leb-true, eqb-true}
 use Rattle.code_runs.specs.Runs.{put}
 use Rattle.code_runs.proofs.Laws.{put_same}
@@ -14,7 +14,7 @@ use Rattle.scopes.specs.declared.line.Operand.TheVariants.{Number}
 use Rattle.scopes.specs.Trees.{Tree, ThenTree, ScopeTree, LoopTree, WhenTree, WithTree}
 use Rattle.scopes.specs.Meaning.{Ran}
 use Rattle.player_memory.specs.declared.labels.TheConstants.{TICK, NEW_COMMAND, PULSE_POINTER, VOLUME, ORDER_LOW}
-use Rattle.player_memory.specs.declared.labels.TheConstants.{LENT, KEPT_COMMAND, FIRST_VARIABLE}
+use Rattle.player_memory.specs.declared.labels.TheConstants.{LENT}
 use Rattle.player_memory.specs.Playing.{own_at, shared_at, place_in}
 use Rattle.player_memory.specs.SongLists.{list_label, list_byte}
 use Rattle.player_memory.specs.Holds.{order_label}
@@ -27,15 +27,8 @@ use Rattle.worked_blocks.specs.WorkedFrames.{BeginsExactly, ReadyExactly, Entran
 
 -- ---- entrances
 
-no_label : (label : ℕ) → Some label ≡ None → ⊥
-no_label label e = cc
-
 no_tree : (tree : Tree) → Some tree ≡ None → ⊥
 no_tree tree e = cc
-
-abbrev label_of : Option ℕ → ℕ
-label_of None = 0
-label_of (Some label) = label
 
 -- the numbers that are loaded in X
 abbrev x_loads : Tree → List ℕ
@@ -46,27 +39,21 @@ x_loads (WhenTree condition body) = x_loads body
 x_loads (WithTree Ldx (Number number)) = number ∷ []
 x_loads tree = []
 
--- the second of them tells how many variables there are
-another_count : (start : Start) (variables : ℕ) → 1 ≤ variables →
-    init_tree start variables ≡ init_tree start (variables + 1) → ⊥
-another_count start variables some e =
-    let same : variables - 1 ≡ variables + 1 - 1 = ap (λ tree. slice_index (x_loads tree) 1) e in
+-- the second of them tells how many variables are cleared
+another_count : (start : Start) (count : ℕ) → 1 ≤ count →
+    init_tree start count ≡ init_tree start (count + 1) → ⊥
+another_count start count some e =
+    let same : count - 1 ≡ count + 1 - 1 = ap (λ tree. slice_index (x_loads tree) 1) e in
     omega (arith, same, some)
 
-entrances : (label pointer variables : ℕ) (start : Start) → EntrancesAreTold label pointer variables start
-entrances label pointer variables start = record {
-  frames = record { first = refl; voice = refl; stored = refl };
-  storing = λ plays. no_label FIRST_VARIABLE plays.stored;
+entrances : (label pointer count : ℕ) (start : Start) → EntrancesAreTold label pointer count start
+entrances label pointer count start = record {
+  frames = record { first = refl; voice = refl };
   alone = λ plays. no_tree voice_tree (sym plays.voice);
-  beginnings = record { first = refl; voice = refl; stored = refl };
-  another = λ some begins. another_count start variables some begins.first;
-  elsewhere = λ begins. other_label begins.stored;
-  nowhere = λ begins. no_label FIRST_VARIABLE (sym begins.stored);
+  beginnings = record { first = refl; voice = refl };
+  another = λ some begins. another_count start count some begins.first;
   voices = λ begins. no_tree voice_tree begins.voice;
 }
-  where
-    other_label : Some KEPT_COMMAND ≡ Some FIRST_VARIABLE → ⊥
-    other_label e = let same : KEPT_COMMAND ≡ FIRST_VARIABLE = ap label_of e in omega (arith, same)
 
 -- ---- states and calls
 
@@ -121,9 +108,9 @@ frames layout packed o k x before run = record {
   elsewhere = λ place away off plays. not_put run.desk.at place (before.at place) (plays.elsewhere place away off);
 }
 
-beginnings : (layout : Layout) (packed : PackedSong) (o : Options) (k variables : ℕ) (before : Desk) (run : Ran) →
-    BeginsExactly layout packed o k variables before run
-beginnings layout packed o k variables before run = record {
+beginnings : (layout : Layout) (packed : PackedSong) (o : Options) (k count : ℕ) (before : Desk) (run : Ran) →
+    BeginsExactly layout packed o k count before run
+beginnings layout packed o k count before run = record {
   ends = λ outcome other begins. other begins.ends;
   register = λ register few begins. not_put run.desk.at (0xD400 + register) 0 (begins.registers register few);
   timer_low = λ timed begins.

@@ -13,7 +13,7 @@ use Rattle.scope_calls.specs.Entrances.{Entrance}
 use Rattle.player_memory.specs.declared.conditions.TheConstants.{FILTER_TABLE, FILTER_USED, TIMED, SET_VOLUME}
 use Rattle.player_memory.specs.declared.conditions.TheConstants.{ROW_COMMAND, PULSE_TABLE}
 use Rattle.player_memory.specs.declared.labels.TheConstants.{TICK, NEW_COMMAND, PULSE_POINTER, VOLUME, ORDER_LOW}
-use Rattle.player_memory.specs.declared.labels.TheConstants.{LENT, KEPT_COMMAND, FIRST_VARIABLE}
+use Rattle.player_memory.specs.declared.labels.TheConstants.{LENT}
 use Rattle.player_memory.specs.Rooms.{IsElsewhere}
 use Rattle.player_memory.specs.Playing.{place_in}
 use Rattle.player_memory.specs.SongLists.{SongList, IsSongList, HasNumber, list_label, list_byte, slide_rows}
@@ -31,7 +31,7 @@ use Rattle.frame_code.specs.InitBlock.{BeginsSubtunes, BeginsSubtune, ReadsOffTi
 abbrev pub frames_at : ℕ → ℕ → Entrance
 frames_at label pointer = record {
   label = label;
-  stored = None;
+  numbered = false;
   first = filter_tree;
   voice = Some voice_tree;
   pointer = pointer;
@@ -39,29 +39,23 @@ frames_at label pointer = record {
 }
 
 abbrev pub beginnings_at : ℕ → ℕ → Start → ℕ → Entrance
-beginnings_at label pointer start variables = record {
+beginnings_at label pointer start count = record {
   label = label;
-  stored = Some FIRST_VARIABLE;
-  first = init_tree start variables;
+  numbered = true;
+  first = init_tree start count;
   voice = None;
   pointer = pointer;
   holds = λ condition. false;
 }
 
-pub record EntrancesAreTold (label pointer variables : ℕ) (start : Start) : Type 0 where
+pub record EntrancesAreTold (label pointer count : ℕ) (start : Start) : Type 0 where
   pub frames : PlaysFrames (frames_at label pointer)
-  -- it stores its number, or calls no voice
-  pub storing : ¬ PlaysFrames (record (frames_at label pointer) { stored = Some FIRST_VARIABLE })
+  -- it calls no voice
   pub alone : ¬ PlaysFrames (record (frames_at label pointer) { voice = None })
-  pub beginnings : BeginsSubtunes (beginnings_at label pointer start variables) start variables
-  -- it clears another byte, stores its number elsewhere, or not at all, or calls the voices
-  pub another : 1 ≤ variables → ¬ BeginsSubtunes (beginnings_at label pointer start variables) start (variables + 1)
-  pub elsewhere : ¬ BeginsSubtunes (record (beginnings_at label pointer start variables) { stored = Some KEPT_COMMAND })
-      start variables
-  pub nowhere : ¬ BeginsSubtunes (record (beginnings_at label pointer start variables) { stored = None }) start
-      variables
-  pub voices : ¬ BeginsSubtunes (record (beginnings_at label pointer start variables) { voice = Some voice_tree }) start
-      variables
+  pub beginnings : BeginsSubtunes (beginnings_at label pointer start count) start count
+  -- it clears another byte, or calls the voices
+  pub another : 1 ≤ count → ¬ BeginsSubtunes (beginnings_at label pointer start count) start (count + 1)
+  pub voices : ¬ BeginsSubtunes (record (beginnings_at label pointer start count) { voice = Some voice_tree }) start count
 
 -- ---- places
 
@@ -131,20 +125,20 @@ pub record FramesExactly (layout : Layout) (packed : PackedSong) (o : Options) (
       ¬ Frames layout packed o k x before (leaving run place (before.at place + 1))
 
 -- nor begins one a subtune so; nor does one that leaves the timer with another number
-pub record BeginsExactly (layout : Layout) (packed : PackedSong) (o : Options) (k variables : ℕ) (before : Desk)
+pub record BeginsExactly (layout : Layout) (packed : PackedSong) (o : Options) (k count : ℕ) (before : Desk)
     (run : Ran) : Type 0 where
   pub ends : (outcome : Outcome) → outcome ≢ Done →
-      ¬ BeginsSubtune layout packed o k variables before (ending run outcome)
+      ¬ BeginsSubtune layout packed o k count before (ending run outcome)
   pub register : (register : ℕ) → register < 25 →
-      ¬ BeginsSubtune layout packed o k variables before (leaving run (0xD400 + register) 1)
+      ¬ BeginsSubtune layout packed o k count before (leaving run (0xD400 + register) 1)
   pub timer_low : layout.holds TIMED ≡ true →
-      ¬ BeginsSubtune layout packed o k variables before (leaving run 0xDC04 ((start_of o).timer_low + 1))
+      ¬ BeginsSubtune layout packed o k count before (leaving run 0xDC04 ((start_of o).timer_low + 1))
   pub timer_high : layout.holds TIMED ≡ true →
-      ¬ BeginsSubtune layout packed o k variables before (leaving run 0xDC05 ((start_of o).timer_high + 1))
+      ¬ BeginsSubtune layout packed o k count before (leaving run 0xDC05 ((start_of o).timer_high + 1))
   pub no_timer : layout.holds TIMED ≡ false →
-      ¬ BeginsSubtune layout packed o k variables before (leaving run 0xDC04 (before.at 0xDC04 + 1))
-  pub elsewhere : (place : ℕ) → IsUntouched layout (slide_rows packed) variables place →
-      ¬ BeginsSubtune layout packed o k variables before (leaving run place (before.at place + 1))
+      ¬ BeginsSubtune layout packed o k count before (leaving run 0xDC04 (before.at 0xDC04 + 1))
+  pub elsewhere : (place : ℕ) → IsUntouched layout (slide_rows packed) count place →
+      ¬ BeginsSubtune layout packed o k count before (leaving run place (before.at place + 1))
 
 -- no frame is ready whose filter's program has no lines, nor any where the filter's table has lines and its bytes have
 -- none; and no call has the number of a subtune with another number in A, with one that isn't stored, or with one whose
@@ -161,13 +155,13 @@ pub record ReadyExactly (layout : Layout) (packed : PackedSong) (o : Options) (k
 -- ---- all of it
 
 pub record EntrancesAreExact : Type 0 where
-  pub entrances : (label pointer variables : ℕ) (start : Start) → EntrancesAreTold label pointer variables start
+  pub entrances : (label pointer count : ℕ) (start : Start) → EntrancesAreTold label pointer count start
   pub places : (layout : Layout) → PlacesAreTold layout
   pub states : (layout : Layout) (packed : PackedSong) (k : ℕ) (x : FrameState) (at : ℕ → ℕ) →
       HoldsExactly layout packed k x at
   pub frames : (layout : Layout) (packed : PackedSong) (o : Options) (k : ℕ) (x : FrameState) (before : Desk)
       (run : Ran) → FramesExactly layout packed o k x before run
-  pub beginnings : (layout : Layout) (packed : PackedSong) (o : Options) (k variables : ℕ) (before : Desk) (run : Ran) →
-      BeginsExactly layout packed o k variables before run
+  pub beginnings : (layout : Layout) (packed : PackedSong) (o : Options) (k count : ℕ) (before : Desk) (run : Ran) →
+      BeginsExactly layout packed o k count before run
   pub ready : (layout : Layout) (packed : PackedSong) (o : Options) (k : ℕ) (x : FrameState) (at : ℕ → ℕ)
       (desk : Desk) → ReadyExactly layout packed o k x at desk
