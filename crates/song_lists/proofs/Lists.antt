@@ -13,14 +13,14 @@ use Rattle.packed_form.specs.declared.packed_songs.PackedSong.{PackedSong}
 use Rattle.packed_form.specs.Sizes.{list_size, subtune_size}
 use Rattle.packed_form.specs.Unpacked.{unpacked_instrument, unpacked_song}
 use Rattle.player_memory.specs.Forms.{stored}
-use Rattle.player_memory.specs.SongLists.{is_read, unread, unread_size, shared_size, bytes_in_front, gap_size}
+use Rattle.player_memory.specs.SongLists.{is_read, unread, unread_size, unlisted_size, shared_size, bytes_in_front, gap_size}
 use Rattle.player_memory.specs.SongLists.{instrument_byte}
 use Rattle.song_lists.specs.DataLists.{frequency_lows, frequency_highs, lefts, rights, stored_rows, periods}
 use Rattle.song_lists.specs.DataLists.{kept_list, kept_rows, field_bytes, instrument_bytes, field_size, fields_before}
 use Rattle.song_lists.specs.DataLists.{one_timer_bytes, one_wave_bytes, one_timer_size, all_orders, lows, highs}
 use Rattle.song_lists.specs.DataLists.{orders_place, patterns_place, frequencies_place, bytes_back}
 use Rattle.song_lists.specs.DataLists.{gap_bytes, frequency_lists}
-use Rattle.song_lists.specs.DataLists.{order_places, pattern_places, data_bytes}
+use Rattle.song_lists.specs.DataLists.{listed_orders, order_places, listed_places, pattern_places, data_bytes}
 use Rattle.song_lists.specs.ListLaws.{lists_size}
 use Rattle.song_lists.proofs.Pieces.{concat-append, size_all, places_count, orders_count, orders_size, texts_size}
 
@@ -37,7 +37,7 @@ fixed_lists dependent packed start =
     ∷ instrument_bytes packed 3 ∷ instrument_bytes packed 4 ∷ instrument_bytes packed 5
     ∷ instrument_bytes packed 6 ∷ instrument_bytes packed 7 ∷ instrument_bytes packed 8
     ∷ one_timer_bytes packed ∷ one_wave_bytes packed
-    ∷ lows start 0 (order_places dependent packed) ∷ highs start 0 (order_places dependent packed)
+    ∷ lows start 0 (listed_places dependent packed) ∷ highs start 0 (listed_places dependent packed)
     ∷ lows start 1 (pattern_places dependent packed) ∷ highs start 1 (pattern_places dependent packed) ∷ []
 
 -- and those that are its own
@@ -80,8 +80,8 @@ pub record Lengths (dependent : Bool) (packed : PackedSong) (start : ℕ) : Type
   pub ninth : length (instrument_bytes packed 8) ≡ field_size packed 8
   pub timer : length (one_timer_bytes packed) ≡ one_timer_size packed
   pub wave : one_timer_size packed + length (one_wave_bytes packed) ≡ shared_size packed
-  pub order_lows : length (lows start 0 (order_places dependent packed)) ≡ 3 * length packed.subtunes
-  pub order_highs : length (highs start 0 (order_places dependent packed)) ≡ 3 * length packed.subtunes
+  pub order_lows : length (lows start 0 (listed_places dependent packed)) ≡ listed_orders packed
+  pub order_highs : length (highs start 0 (listed_places dependent packed)) ≡ listed_orders packed
   pub pattern_lows : length (lows start 1 (pattern_places dependent packed)) ≡ length packed.patterns
   pub pattern_highs : length (highs start 1 (pattern_places dependent packed)) ≡ length packed.patterns
 
@@ -122,6 +122,26 @@ pub order_places_count : (dependent : Bool) (packed : PackedSong) →
 order_places_count dependent packed =
     places_count (orders_place dependent packed) (all_orders packed) ∙ orders_count packed.subtunes
 
+-- none of them where there is one subtune alone
+listed_count : (dependent : Bool) (packed : PackedSong) →
+    length (listed_places dependent packed) ≡ listed_orders packed
+listed_count dependent packed = by_test packed.facts.subtunes
+  where
+    by_test : (z : Bool) →
+        length (if z then order_places dependent packed else []) ≡ if z then 3 * length packed.subtunes else 0
+    by_test true = order_places_count dependent packed
+    by_test false = refl
+
+-- with those that aren't listed there are as many bytes as those of three addresses of each subtune
+listed_or_not : (packed : PackedSong) → 2 * listed_orders packed + unlisted_size packed ≡ 6 * length packed.subtunes
+listed_or_not packed = by_test packed.facts.subtunes
+  where
+    by_test : (z : Bool) →
+        2 * (if z then 3 * length packed.subtunes else 0) + (if z then 0 else 6 * length packed.subtunes)
+        ≡ 6 * length packed.subtunes
+    by_test true = omega arith
+    by_test false = omega arith
+
 pub lengths : (dependent : Bool) (packed : PackedSong) (start : ℕ) → Lengths dependent packed start
 lengths dependent packed start = record {
   speed_rights = length-map packed.speed (λ row. row.right);
@@ -146,10 +166,10 @@ lengths dependent packed start = record {
   ninth = field_count packed 8;
   timer = timer_count packed;
   wave = wave_count packed;
-  order_lows = length-map (order_places dependent packed) (λ place. (start + place - 0) % 256)
-      ∙ order_places_count dependent packed;
-  order_highs = length-map (order_places dependent packed) (λ place. (start + place - 0) / 256)
-      ∙ order_places_count dependent packed;
+  order_lows = length-map (listed_places dependent packed) (λ place. (start + place - 0) % 256)
+      ∙ listed_count dependent packed;
+  order_highs = length-map (listed_places dependent packed) (λ place. (start + place - 0) / 256)
+      ∙ listed_count dependent packed;
   pattern_lows = length-map (pattern_places dependent packed) (λ place. (start + place - 1) % 256)
       ∙ places_count (patterns_place dependent packed) packed.patterns;
   pattern_highs = length-map (pattern_places dependent packed) (λ place. (start + place - 1) / 256)
@@ -228,20 +248,21 @@ frequencies_begin dependent packed =
     ap (λ (n : ℕ). n + gap_size packed)
     (sizes_sum (length (concat (all_orders packed))) (length (concat packed.patterns))
     (length packed.subtunes) (length packed.patterns) (length packed.instruments) (fields_before packed 9)
-    (unread_size packed) (shared_size packed) (length packed.wave) (length packed.pulse) (length packed.filter)
+    (unread_size packed) (listed_orders packed) (unlisted_size packed) (shared_size packed) (length packed.wave) (length packed.pulse) (length packed.filter)
     (length packed.speed) (kept_rows dependent packed)
     (sum_by subtune_size packed.subtunes)
     (sum_by list_size packed.patterns) (orders_size packed.subtunes) (texts_size packed.patterns)
-    (field_sums packed).all)
+    (field_sums packed).all (listed_or_not packed))
   where
-    sizes_sum : (orders patterns subtunes texts instruments fields unread shared wave pulse filter speed kept order_sum
-        text_sum : ℕ) → orders + 6 * subtunes ≡ order_sum → patterns + 2 * texts ≡ text_sum →
-        fields + unread ≡ 9 * instruments →
-        1 + 2 * speed + 3 * kept + 2 * wave + 2 * pulse + 2 * filter + fields + 1 + shared + 6 * subtunes + 2 * texts
+    sizes_sum : (orders patterns subtunes texts instruments fields unread listed unlisted shared wave pulse filter speed
+        kept order_sum text_sum : ℕ) → orders + 6 * subtunes ≡ order_sum → patterns + 2 * texts ≡ text_sum →
+        fields + unread ≡ 9 * instruments → 2 * listed + unlisted ≡ 6 * subtunes →
+        1 + 2 * speed + 3 * kept + 2 * wave + 2 * pulse + 2 * filter + fields + 1 + shared + 2 * listed + 2 * texts
         + orders + patterns
-        ≡ 2 + (order_sum + text_sum + 9 * instruments + 2 * wave + 2 * pulse + 2 * filter + 2 * speed + shared - unread)
+        ≡ 2 + (order_sum + text_sum + 9 * instruments + 2 * wave + 2 * pulse + 2 * filter + 2 * speed + shared
+        - (unread + unlisted))
         + 3 * kept
-    sizes_sum _ _ _ _ _ _ _ _ _ _ _ _ _ _ _ d e f = omega arith
+    sizes_sum _ _ _ _ _ _ _ _ _ _ _ _ _ _ _ _ _ d e f g = omega arith
 
 pub gap_count : (packed : PackedSong) → length (gap_bytes packed) ≡ gap_size packed
 gap_count packed = length-replicate {A = ℕ} (gap_size packed) 0

@@ -29,7 +29,7 @@ use Rattle.song_lists.specs.declared.marks.Mark.{Mark}
 use Rattle.song_lists.specs.Marks.{mark_at}
 use Rattle.song_lists.specs.DataLists.{frequency_lows, frequency_highs, lefts, rights, stored_rows}
 use Rattle.song_lists.specs.DataLists.{field_bytes, instrument_bytes, one_timer_bytes, one_wave_bytes}
-use Rattle.song_lists.specs.DataLists.{order_places, pattern_places, patterns_place}
+use Rattle.song_lists.specs.DataLists.{lows, highs, order_places, pattern_places, patterns_place}
 use Rattle.song_lists.specs.DataLists.{label_place, marks_from, list_marks, data_marks, IsDataLayout}
 use Rattle.song_lists.proofs.Pieces.{places_count}
 use Rattle.song_lists.proofs.Lists.{lengths, field_count, lows_count, highs_count, order_places_count}
@@ -201,8 +201,10 @@ has_length dependent packed start OneTimer is =
     ap (λ (z : Bool). length (if z then [] else timer_of (instrument_at (unpacked_song packed) 1) ∷ [])) is
 has_length dependent packed start OneWave is =
     ap (λ (z : Bool). length (if z then [] else (instrument_at (unpacked_song packed) 1).first_wave ∷ [])) is
-has_length dependent packed start OrderLows is = (lengths dependent packed start).order_lows
-has_length dependent packed start OrderHighs is = (lengths dependent packed start).order_highs
+has_length dependent packed start OrderLows is =
+    (lengths dependent packed start).order_lows ∙ ap (λ (z : Bool). if z then 3 * length packed.subtunes else 0) is
+has_length dependent packed start OrderHighs is =
+    (lengths dependent packed start).order_highs ∙ ap (λ (z : Bool). if z then 3 * length packed.subtunes else 0) is
 has_length dependent packed start PatternLows is = (lengths dependent packed start).pattern_lows
 has_length dependent packed start PatternHighs is = (lengths dependent packed start).pattern_highs
 has_length dependent packed start (OrderBytes subtune channel) is = refl
@@ -356,13 +358,15 @@ has_bytes layout dependent packed start OneWave i number laid is inside at =
     ∙ ap (λ (z : Bool). get_or (if z then [] else wave ∷ []) 0 0) is
 has_bytes layout dependent packed start OrderLows i number laid is inside at =
     let whole : layout.address (ORDERS + number) - 0 ≡ layout.address (ORDERS + number) = omega arith in
-    low_address_at start 0 (order_places dependent packed) i number (layout.address (ORDERS + number))
+    ap (λ (z : Bool). get_or (lows start 0 (if z then order_places dependent packed else [])) i 0) is
+    ∙ low_address_at start 0 (order_places dependent packed) i number (layout.address (ORDERS + number))
     (omega (arith, order_places_count dependent packed)) (omega arith)
     (order_at_label layout dependent packed start number laid (omega arith))
     ∙ ap (λ (a : ℕ). a % 256) whole
 has_bytes layout dependent packed start OrderHighs i number laid is inside at =
     let whole : layout.address (ORDERS + number) - 0 ≡ layout.address (ORDERS + number) = omega arith in
-    high_address_at start 0 (order_places dependent packed) i number (layout.address (ORDERS + number))
+    ap (λ (z : Bool). get_or (highs start 0 (if z then order_places dependent packed else [])) i 0) is
+    ∙ high_address_at start 0 (order_places dependent packed) i number (layout.address (ORDERS + number))
     (omega (arith, order_places_count dependent packed)) (omega arith)
     (order_at_label layout dependent packed start number laid (omega arith))
     ∙ ap (λ (a : ℕ). a / 256) whole

@@ -16,7 +16,7 @@ use Rattle.player_memory.proofs.Laws.{read_below}
 use Rattle.song_lists.specs.DataLists.{frequency_lows, frequency_highs, lefts, rights, stored_rows, periods}
 use Rattle.song_lists.specs.DataLists.{instrument_bytes, one_timer_bytes, one_wave_bytes, all_orders, orders_of}
 use Rattle.song_lists.specs.DataLists.{lows, highs, periods_place}
-use Rattle.song_lists.specs.DataLists.{orders_place, patterns_place, order_places, pattern_places, data_bytes}
+use Rattle.song_lists.specs.DataLists.{orders_place, patterns_place, order_places, listed_places, pattern_places, data_bytes}
 use Rattle.song_lists.specs.DataLists.{frequencies_place, bytes_back, gap_bytes, frequency_lists, label_place}
 use Rattle.song_lists.proofs.Pieces.{StandsIn, size_before, piece_stands, stands_before, stands_after, place_at}
 use Rattle.song_lists.proofs.Pieces.{order_at, orders_count}
@@ -41,8 +41,8 @@ written dependent packed start Periods = 0 ∷ periods packed.speed
 written dependent packed start (Instruments field) = instrument_bytes packed field
 written dependent packed start OneTimer = one_timer_bytes packed
 written dependent packed start OneWave = one_wave_bytes packed
-written dependent packed start OrderLows = lows start 0 (order_places dependent packed)
-written dependent packed start OrderHighs = highs start 0 (order_places dependent packed)
+written dependent packed start OrderLows = lows start 0 (listed_places dependent packed)
+written dependent packed start OrderHighs = highs start 0 (listed_places dependent packed)
 written dependent packed start PatternLows = lows start 1 (pattern_places dependent packed)
 written dependent packed start PatternHighs = highs start 1 (pattern_places dependent packed)
 written dependent packed start (OrderBytes subtune channel) = order_bytes packed subtune channel
@@ -54,6 +54,8 @@ IsWritten dependent packed Periods = dependent ≡ true
 IsWritten dependent packed (Instruments field) = is_read packed field ≡ true
 IsWritten dependent packed OneTimer = packed.facts.own_timer ≡ false
 IsWritten dependent packed OneWave = packed.facts.own_wave ≡ false
+IsWritten dependent packed OrderLows = packed.facts.subtunes ≡ true
+IsWritten dependent packed OrderHighs = packed.facts.subtunes ≡ true
 IsWritten dependent packed (OrderBytes subtune channel) = (subtune < length packed.subtunes) × (channel < 3)
 IsWritten dependent packed (PatternBytes pattern) = pattern < length packed.patterns
 IsWritten dependent packed list = Unit {0}

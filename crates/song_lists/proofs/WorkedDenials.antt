@@ -21,7 +21,7 @@ use Rattle.song_lists.specs.WorkedLists.{IsSmallSongWith, all_read, delay_read, 
 use Rattle.song_lists.specs.WorkedLists.{OtherListingsAreNot, OtherListingsAre}
 use Rattle.song_lists.proofs.Naming.{times_named, item_names, named_once}
 use Rattle.song_lists.proofs.DataLines.{lines_take_size, list_labels_are_named}
-use Rattle.song_lists.proofs.WorkedLists.{plain_bytes_are, kept_bytes_are}
+use Rattle.song_lists.proofs.WorkedLists.{plain_bytes_are, kept_bytes_are, one_subtune_is}
 
 -- ---- the bytes of lines
 
@@ -130,4 +130,5 @@ other_listings_are = record {
       (plain_lines_with SLIDES_LOW (last_lines_with 0xE2 0xFF 0x02 0xFF (0x46 ∷ 0x04 ∷ 0x1D ∷ 0x1F ∷ [])))
       (front_size packed is) refl;
   fields = λ packed is. other_size false packed 0x1FCC 51 plain_lines (fields_size packed is) refl;
+  addresses = λ packed is. other_size false packed 0x1FCC 54 plain_lines (one_subtune_is packed is).size refl;
 }

@@ -10,12 +10,14 @@ use Rattle.play_model.specs.Freq.{freq}
 use Rattle.song_lists.specs.declared.marks.Mark.{Mark}
 use Rattle.song_lists.specs.Marks.{mark_at, marked}
 use Rattle.song_lists.specs.DataLists.{frequency_lows, frequency_highs, fields_before, data_bytes, data_marks, HasLines}
+use Rattle.song_lists.specs.DataLists.{order_places}
 use Rattle.song_lists.specs.WorkedLists.{FewAreInFront, NoneIsListed, LastAreListed, FrequenciesAreWorked, from}
 use Rattle.song_lists.specs.WorkedLists.{all_read, delay_read, timer_read, FewAreRead, OneWaveIsRead, FewerAreInFront}
-use Rattle.song_lists.specs.WorkedLists.{FewFieldsAreWorked}
+use Rattle.song_lists.specs.WorkedLists.{FewFieldsAreWorked, OneSubtuneIs, one_alone}
 use Rattle.song_lists.specs.WorkedLists.{IsSmallSongWith, IsSmallSong, plain_bytes, kept_bytes, plain_lines}
 use Rattle.song_lists.specs.WorkedLists.{kept_lines, SmallListsAreWorked}
 use Rattle.song_lists.specs.WorkedLayouts.{plain_marks, kept_marks}
+use Rattle.song_lists.proofs.WorkedOrders.{are_orders, other_order}
 
 -- ---- frequencies
 
@@ -100,6 +102,32 @@ fewer_are_in_front packed is = record {
 
 pub few_fields_are_worked : FewFieldsAreWorked
 few_fields_are_worked = record { few = few_are_read; wave = one_wave_is_read; front = fewer_are_in_front }
+
+-- ---- addresses that aren't listed
+
+alone_places_are : (packed : PackedSong) → IsSmallSongWith one_alone (from 36 3) packed →
+    order_places false packed ≡ 35 ∷ 38 ∷ 42 ∷ []
+unfolding fields_before
+alone_places_are packed is =
+    rw (is.subtunes, is.patterns, is.instruments, is.wave, is.pulse, is.filter, is.speed, is.facts) refl
+
+pub one_subtune_is : OneSubtuneIs
+unfolding frequency_lows frequency_highs freq fields_before instrument_at
+one_subtune_is packed is = record {
+  bytes = rw (is.subtunes, is.patterns, is.instruments, is.wave, is.pulse, is.filter, is.speed, is.facts, is.numbers)
+      refl;
+  low = rw (is.instruments, is.wave, is.pulse, is.filter, is.speed, is.facts) refl;
+  high = rw (is.instruments, is.wave, is.pulse, is.filter, is.speed, is.facts) refl;
+  pattern_low = rw (is.instruments, is.wave, is.pulse, is.filter, is.speed, is.facts) refl;
+  pattern_high = rw (is.patterns, is.instruments, is.wave, is.pulse, is.filter, is.speed, is.facts) refl;
+  order = rw (is.subtunes, is.patterns, is.instruments, is.wave, is.pulse, is.filter, is.speed, is.facts) refl;
+  first = are_orders false packed 0x1FD2 35 38 42 (alone_places_are packed is);
+  other =
+      other_order false packed 0x1FD2 2 (0x1FF5 ∷ 0x1FF8 ∷ 0x1FFD ∷ []) (35 ∷ 38 ∷ 42 ∷ [])
+      (alone_places_are packed is) (omega arith) refl;
+  size = rw (is.subtunes, is.patterns, is.instruments, is.wave, is.pulse, is.filter, is.speed, is.facts, is.numbers)
+      refl;
+}
 
 -- ---- their labels, by their places
 

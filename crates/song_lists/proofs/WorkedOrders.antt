@@ -16,7 +16,7 @@ unfolding fields_before
 kept_places_are packed is =
     rw (is.subtunes, is.patterns, is.instruments, is.wave, is.pulse, is.filter, is.speed, is.facts) refl
 
-are_orders : (dependent : Bool) (packed : PackedSong) (start one two three : ℕ) →
+pub are_orders : (dependent : Bool) (packed : PackedSong) (start one two three : ℕ) →
     order_places dependent packed ≡ one ∷ two ∷ three ∷ [] →
     AreFirstOrders dependent packed start ((start + one) ∷ (start + two) ∷ (start + three) ∷ [])
 are_orders dependent packed start one two three are zero below =
@@ -28,7 +28,7 @@ are_orders dependent packed start one two three are (suc (suc zero)) below =
 are_orders dependent packed start one two three are (suc (suc (suc voice))) below = absurd (omega arith)
 
 -- an address that isn't this voice's
-other_order : (dependent : Bool) (packed : PackedSong) (start voice : ℕ) (orders places : List ℕ) →
+pub other_order : (dependent : Bool) (packed : PackedSong) (start voice : ℕ) (orders places : List ℕ) →
     order_places dependent packed ≡ places → voice < 3 →
     nat_eq (slice_index orders voice) (start + slice_index places voice) ≡ false →
     ¬ AreFirstOrders dependent packed start orders

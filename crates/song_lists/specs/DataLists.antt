@@ -94,6 +94,10 @@ one_wave_bytes packed =
 abbrev pub one_timer_size : PackedSong → ℕ
 one_timer_size packed = if packed.facts.own_timer then 0 else 1
 
+-- how many addresses of orderlists stand in lists: none where there is one subtune alone
+abbrev pub listed_orders : PackedSong → ℕ
+listed_orders packed = if packed.facts.subtunes then 3 * length packed.subtunes else 0
+
 -- the orderlists, three of each subtune
 abbrev pub orders_of : PackedSubtune → List (List ℕ)
 orders_of subtune = subtune.one ∷ subtune.two ∷ subtune.three ∷ []
@@ -152,13 +156,13 @@ one_timer_place dependent packed = instruments_place dependent packed + fields_b
 abbrev pub one_wave_place : Bool → PackedSong → ℕ
 one_wave_place dependent packed = one_timer_place dependent packed + one_timer_size packed
 
--- the addresses of the orderlists and of the patterns stand behind that, and then they themselves
+-- the addresses of the orderlists, where they are listed, and of the patterns stand behind that, and then they themselves
 abbrev pub addresses_place : Bool → PackedSong → ℕ
 addresses_place dependent packed = one_timer_place dependent packed + shared_size packed
 
 abbrev pub orders_place : Bool → PackedSong → ℕ
 orders_place dependent packed =
-    addresses_place dependent packed + 6 * length packed.subtunes + 2 * length packed.patterns
+    addresses_place dependent packed + 2 * listed_orders packed + 2 * length packed.patterns
 
 abbrev pub patterns_place : Bool → PackedSong → ℕ
 patterns_place dependent packed = orders_place dependent packed + length (concat (all_orders packed))
@@ -183,6 +187,10 @@ order_places dependent packed = places_from (orders_place dependent packed) (all
 
 abbrev pub pattern_places : Bool → PackedSong → List ℕ
 pattern_places dependent packed = places_from (patterns_place dependent packed) packed.patterns
+
+-- those of the orderlists whose addresses stand in lists
+abbrev pub listed_places : Bool → PackedSong → List ℕ
+listed_places dependent packed = if packed.facts.subtunes then order_places dependent packed else []
 
 -- the addresses of the first subtune's orderlists, where the first byte is to stand at `start`
 abbrev pub AreFirstOrders : Bool → PackedSong → ℕ → List ℕ → Type 0
@@ -212,10 +220,10 @@ instrument_lists packed = map (instrument_bytes packed) (range_with_len 0 9)
 abbrev pub shared_lists : PackedSong → List (List ℕ)
 shared_lists packed = one_timer_bytes packed ∷ one_wave_bytes packed ∷ []
 
--- the addresses of the orderlists, and the places before the patterns
+-- the addresses of the orderlists where there are several subtunes, and the places before the patterns
 abbrev pub address_lists : Bool → PackedSong → ℕ → List (List ℕ)
 address_lists dependent packed start =
-    lows start 0 (order_places dependent packed) ∷ highs start 0 (order_places dependent packed)
+    lows start 0 (listed_places dependent packed) ∷ highs start 0 (listed_places dependent packed)
     ∷ lows start 1 (pattern_places dependent packed) ∷ highs start 1 (pattern_places dependent packed) ∷ []
 
 abbrev pub frequency_lists : PackedSong → List (List ℕ)
@@ -248,10 +256,10 @@ label_place dependent packed (Instruments field) =
 label_place dependent packed OneTimer = one_timer_place dependent packed
 label_place dependent packed OneWave = one_wave_place dependent packed
 label_place dependent packed OrderLows = addresses_place dependent packed
-label_place dependent packed OrderHighs = addresses_place dependent packed + 3 * length packed.subtunes
-label_place dependent packed PatternLows = addresses_place dependent packed + 6 * length packed.subtunes
+label_place dependent packed OrderHighs = addresses_place dependent packed + listed_orders packed
+label_place dependent packed PatternLows = addresses_place dependent packed + 2 * listed_orders packed
 label_place dependent packed PatternHighs =
-    addresses_place dependent packed + 6 * length packed.subtunes + length packed.patterns
+    addresses_place dependent packed + 2 * listed_orders packed + length packed.patterns
 label_place dependent packed (OrderBytes subtune channel) =
     slice_index (order_places dependent packed) (3 * subtune + channel)
 label_place dependent packed (PatternBytes pattern) = slice_index (pattern_places dependent packed) pattern

@@ -19,6 +19,7 @@ use Rattle.player_memory.specs.declared.labels.TheConstants.{FILTERS, VIBRATOS, 
 use Rattle.player_memory.specs.declared.labels.TheConstants.{ORDERS_LOW, ORDERS_HIGH, PATTERNS_LOW, PATTERNS_HIGH}
 use Rattle.player_memory.specs.declared.labels.TheConstants.{ONE_TIMER, ONE_WAVE, ORDERS, PATTERNS}
 use Rattle.player_memory.specs.SongLists.{FrequencyLows, FrequencyHighs, Instruments, OneTimer, OneWave, OrderLows}
+use Rattle.player_memory.specs.SongLists.{OrderHighs, PatternLows, PatternHighs, OrderBytes}
 use Rattle.player_memory.specs.SongLists.{gap_size}
 use Rattle.song_lists.specs.Marks.{label_line, bytes_line}
 use Rattle.song_lists.specs.DataLists.{gap_bytes, frequency_lows, frequency_highs, shared_lists, label_place, data_bytes}
@@ -46,7 +47,8 @@ vibrato_instrument = record { bytes = 0x0A ∷ 0x90 ∷ 0x02 ∷ 0x00 ∷ 0x00 �
 abbrev pub row : ℕ → ℕ → TableRow
 row left right = record { left = left; right = right }
 
--- each field of its instruments is read; or of those that need a fact the vibrato's delay alone; or the gateoff timer
+-- each field of its instruments is read; or of those that need a fact the vibrato's delay alone; or the gateoff timer;
+-- and the addresses of its orderlists are listed, as where there are several subtunes, or they aren't
 abbrev pub all_read : Facts
 all_read = record no_facts {
   no_hard_restart = true;
@@ -55,13 +57,17 @@ all_read = record no_facts {
   note_pulse = true;
   note_filter = true;
   own_wave = true;
+  subtunes = true;
 }
 
 abbrev pub delay_read : Facts
-delay_read = record no_facts { vibrato_delay = true }
+delay_read = record no_facts { vibrato_delay = true; subtunes = true }
 
 abbrev pub timer_read : Facts
-timer_read = record no_facts { own_timer = true }
+timer_read = record no_facts { own_timer = true; subtunes = true }
+
+abbrev pub one_alone : Facts
+one_alone = record all_read { subtunes = false }
 
 -- a wave program of a delay, a silent waveform, a command and a jump; a row of the pulse table; none of the filter
 -- table; a speed that is calculated from notes; with these facts; and it asks for these numbers
@@ -279,6 +285,27 @@ pub record FewFieldsAreWorked : Type 0 where
   pub wave : (packed : PackedSong) → IsSmallSongWith timer_read (from 36 3) packed → OneWaveIsRead packed
   pub front : (packed : PackedSong) → IsSmallSongWith delay_read (from 57 2) packed → FewerAreInFront packed
 
+-- ---- its orderlists, where their addresses aren't listed
+
+-- Behind the one gateoff timer stands the place before the pattern. The labels of the addresses' lists name the byte
+-- where these would be.
+pub record NoneAreAddressed (packed : PackedSong) : Type 0 where
+  pub bytes : drop 32 (data_bytes false packed 0x1FD2)
+      ≡ 0x02 ∷ 0xFF ∷ 0x1F ∷ 0x00 ∷ 0xFF ∷ 0x00 ∷ 0xF2 ∷ 0x00 ∷ 0xFF ∷ 0x01
+      ∷ 0xD1 ∷ 0x00 ∷ 0xFF ∷ 0x00 ∷ 0xC0 ∷ 0x00 ∷ 0xB4 ∷ 0x38 ∷ 0xC4 ∷ 0x08 ∷ 0x09 ∷ 0x09 ∷ []
+  pub low : label_place false packed OrderLows ≡ 33
+  pub high : label_place false packed OrderHighs ≡ 33
+  pub pattern_low : label_place false packed PatternLows ≡ 33
+  pub pattern_high : label_place false packed PatternHighs ≡ 34
+  pub order : label_place false packed (OrderBytes 0 2) ≡ 42
+  -- the addresses that stand in the variables, and with the third one byte further on
+  pub first : AreFirstOrders false packed 0x1FD2 (0x1FF5 ∷ 0x1FF8 ∷ 0x1FFC ∷ [])
+  pub other : ¬ AreFirstOrders false packed 0x1FD2 (0x1FF5 ∷ 0x1FF8 ∷ 0x1FFD ∷ [])
+  pub size : lists_size false packed ≡ 54
+
+abbrev pub OneSubtuneIs : Type 0
+OneSubtuneIs = (packed : PackedSong) → IsSmallSongWith one_alone (from 36 3) packed → NoneAreAddressed packed
+
 -- ---- where its orderlists are
 
 pub record FirstOrdersAreWorked (packed : PackedSong) : Type 0 where
@@ -318,11 +345,14 @@ pub record OtherListingsAreNot (packed : PackedSong) : Type 0 where
   -- the label of the slides left out
   pub label : ¬ HasLines false packed 0x1FCC (plain_lines_with SPEED_RIGHTS last_lines)
 
--- beside them one without the zeros that fill the gap, and one with fields that aren't read
+-- beside them one without the zeros that fill the gap, one with fields that aren't read, and one with addresses that
+-- aren't listed
 pub record OtherListingsAre : Type 0 where
   pub small : (packed : PackedSong) → IsSmallSong packed → OtherListingsAreNot packed
   pub gap : (packed : PackedSong) → IsSmallSongWith all_read (from 57 2) packed →
       ¬ HasLines false packed 0x1FCC (plain_lines_with SLIDES_LOW
       (last_lines_with 0xE2 0xFF 0x02 0xFF (0x46 ∷ 0x04 ∷ 0x1D ∷ 0x1F ∷ [])))
   pub fields : (packed : PackedSong) → IsSmallSongWith delay_read (from 36 3) packed →
+      ¬ HasLines false packed 0x1FCC plain_lines
+  pub addresses : (packed : PackedSong) → IsSmallSongWith one_alone (from 36 3) packed →
       ¬ HasLines false packed 0x1FCC plain_lines

@@ -1,6 +1,6 @@
 //! The bytes of the lists.
 
-ghost use Rattle.std.specs.Prelude.{◌≡◌, ◌<◌, ◌≤◌, ◌+◌, ◌∷◌, ◌++◌, map, true, All, IfOk, OnOk};
+ghost use Rattle.std.specs.Prelude.{◌≡◌, ◌<◌, ◌≤◌, ◌+◌, ◌∷◌, ◌++◌, map, true, All, IfOk, OnOk, if◌then◌else◌, []};
 ghost use Rattle.std.specs.List.{concat, flat_map};
 ghost use Rattle.song_model.specs.LookUp.{instrument_at};
 ghost use Rattle.packed_form.specs.Unpacked.{unpacked_instrument, unpacked_song};
@@ -341,6 +341,13 @@ fn push_address_lists(
     push_highs(bytes, start, 1, patterns)
 }
 
+/// The places of the orderlists whose addresses stand in lists, of all: none where there is one subtune alone.
+fn listed<'a>(packed: &PackedSong, orders: &'a [u16]) -> &'a [u16]
+    ensures { result.now ≡ (if packed.now.facts.subtunes then orders.now else []) }
+{
+    if packed.facts.subtunes { orders } else { &[] }
+}
+
 /// The bytes of a packed song's lists, the first of which is to stand at `start`.
 pub(crate) fn data_bytes(
     alloc: Global,
@@ -363,7 +370,7 @@ pub(crate) fn data_bytes(
     push_table_lists(&mut bytes, packed)?;
     push_instrument_lists(&mut bytes, packed)?;
     push_shared_lists(&mut bytes, packed)?;
-    push_address_lists(&mut bytes, start, places.0, places.1)?;
+    push_address_lists(&mut bytes, start, listed(packed, places.0), places.1)?;
     push_orders(&mut bytes, packed.subtunes.as_slice())?;
     push_patterns(&mut bytes, packed.patterns.as_slice())?;
     push_frequency_lists(&mut bytes, packed)?;

@@ -6,7 +6,7 @@ ghost use Rattle.song_lists.specs.ListLaws.{LabelsHavePlaces, DataStands, ListsS
 ghost use Rattle.song_lists.specs.ListLaws.{PatternsStandInside, SlidesAreInside, NextBytesAreNext};
 ghost use Rattle.song_lists.specs.ListLaws.{SongListsStand, ListsAreLaid};
 ghost use Rattle.song_lists.specs.WorkedLists.{FrequenciesAreWorked, FewFieldsAreWorked, SmallListsAre, FirstOrdersAre};
-ghost use Rattle.song_lists.specs.WorkedLists.{OtherListingsAre};
+ghost use Rattle.song_lists.specs.WorkedLists.{OneSubtuneIs, OtherListingsAre};
 ghost use Rattle.song_lists.specs.WorkedLayouts.{SmallLayoutsAre, OtherLayoutsAre, SmallPlacesAre, LabelsAreWorked};
 
 /// There are two zeros, as many bytes as are read of the packed song or stand alone for all its instruments, those of
@@ -54,12 +54,14 @@ pub fn lists_stand_inside()
 {}
 
 /// The frequencies of some notes, and the lists of a small song, without calculated speeds from `$1FCC` on and with
-/// them from `$1FC6` on, worked by hand; its lists where some fields of its instruments aren't read; the addresses of
-/// its orderlists, and such as aren't theirs; and listings that aren't of it.
+/// them from `$1FC6` on, worked by hand; its lists where some fields of its instruments aren't read, and where the
+/// addresses of its orderlists aren't listed; the addresses of its orderlists, and such as aren't theirs; and listings
+/// that aren't of it.
 pub fn worked_lists()
     ensures frequencies { FrequenciesAreWorked }
     ensures small { SmallListsAre }
     ensures fields { FewFieldsAreWorked }
+    ensures subtune { OneSubtuneIs }
     ensures orders { FirstOrdersAre }
     ensures others { OtherListingsAre }
 {}

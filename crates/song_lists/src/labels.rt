@@ -10,9 +10,9 @@ ghost use Rattle.song_lists.specs.ListLaws.{lists_size};
 
 use crate::marks::{Mark, MarkList};
 use crate::places::{
-    addresses_place, field_size, filter_place, highs_place, instruments_place, lows_place,
-    one_timer_place, one_wave_place, patterns, periods_place, pulse_place, rows, slides_high_place,
-    slides_low_place, speed_lefts_place, subtunes, wave_place,
+    addresses_place, field_size, filter_place, highs_place, instruments_place, listed_orders,
+    lows_place, one_timer_place, one_wave_place, patterns, periods_place, pulse_place, rows,
+    slides_high_place, slides_low_place, speed_lefts_place, wave_place,
 };
 use base::NoMemory;
 use packed_form::PackedSong;
@@ -141,12 +141,12 @@ fn push_address_marks(
     ensures { OnOk result (marks.new ≡ marks.old ++ address_marks dependent packed.now) }
 {
     let place = addresses_place(packed, dependent);
-    let subtunes = subtunes(packed);
+    let orders = listed_orders(packed);
     marks.extend(&[
         mark_at(ORDERS_LOW, place),
-        mark_at(ORDERS_HIGH, place + 3 * subtunes),
-        mark_at(PATTERNS_LOW, place + 6 * subtunes),
-        mark_at(PATTERNS_HIGH, place + 6 * subtunes + patterns(packed)),
+        mark_at(ORDERS_HIGH, place + orders),
+        mark_at(PATTERNS_LOW, place + 2 * orders),
+        mark_at(PATTERNS_HIGH, place + 2 * orders + patterns(packed)),
     ])
 }
 

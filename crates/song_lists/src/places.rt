@@ -7,7 +7,7 @@ ghost use Rattle.song_lists.specs.DataLists.{kept_rows, speed_lefts_place, slide
 ghost use Rattle.song_lists.specs.DataLists.{periods_place, wave_place, pulse_place, filter_place, instruments_place};
 ghost use Rattle.song_lists.specs.DataLists.{field_size, one_timer_place, one_wave_place, addresses_place};
 ghost use Rattle.song_lists.specs.DataLists.{orders_place, orders_of, places_from};
-ghost use Rattle.song_lists.specs.DataLists.{order_places};
+ghost use Rattle.song_lists.specs.DataLists.{listed_orders, order_places};
 ghost use Rattle.song_lists.specs.DataLists.{pattern_places, frequencies_place, bytes_back, label_place};
 ghost use Rattle.song_lists.specs.ListLaws.{lists_size};
 
@@ -26,14 +26,6 @@ pub(crate) fn rows(table: &Table) -> u16
     ensures most { result ≤ 255 }
 {
     table.as_slice().len() as u16
-}
-
-/// How many subtunes there are.
-pub(crate) fn subtunes(packed: &PackedSong) -> u16
-    ensures count { result ≡ length packed.now.subtunes }
-    ensures most { result ≤ 32 }
-{
-    packed.subtunes.as_slice().len() as u16
 }
 
 /// How many patterns there are.
@@ -174,12 +166,24 @@ pub(crate) fn addresses_place(packed: &PackedSong, dependent: bool) -> u16
     one_timer_place(packed, dependent) + shared_size(packed) as u16
 }
 
+/// How many addresses of orderlists stand in lists: none where there is one subtune alone.
+pub(crate) fn listed_orders(packed: &PackedSong) -> u16
+    ensures count { result ≡ listed_orders packed.now }
+    ensures most { result ≤ 96 }
+{
+    if packed.facts.subtunes {
+        3 * packed.subtunes.as_slice().len() as u16
+    } else {
+        0
+    }
+}
+
 /// Where the orderlists begin.
 fn orders_place(packed: &PackedSong, dependent: bool) -> u16
     ensures place { result ≡ orders_place dependent packed.now }
     ensures most { result ≤ 3987 }
 {
-    addresses_place(packed, dependent) + 6 * subtunes(packed) + 2 * patterns(packed)
+    addresses_place(packed, dependent) + 2 * listed_orders(packed) + 2 * patterns(packed)
 }
 
 /// Where the frequencies begin.
