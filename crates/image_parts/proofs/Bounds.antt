@@ -24,6 +24,7 @@ use Rattle.kept_lines.specs.KeptLines.{kept_set}
 use Rattle.kept_lines.proofs.Laws.{no_more}
 use Rattle.variable_places.specs.Places.{variable_count}
 use Rattle.variable_places.proofs.Laws.{counts_are_few}
+use Rattle.player_code.specs.CodeLines.{cleared_of}
 use Rattle.image_parts.specs.CodeParts.{always, code_parts}
 use Rattle.image_parts.specs.Lengths.{slide_bytes, read_of, frequency_bytes}
 use Rattle.image_parts.specs.PartLaws.{CodeIsShort, PartsAreShort, CodeIsBounded, ImagesAreBounded}
@@ -45,25 +46,25 @@ no_longer n m k few = mul-le-mul_right k few
 -- the most that stands in three blocks and around them, where the variables are 113
 abbrev most_around : ℕ → Tree → Tree → Tree → ℕ
 most_around part filter voice init =
-    138 * one_if part always + most_of part always filter + most_of part always voice + most_of part always init
+    135 * one_if part always + most_of part always filter + most_of part always voice + most_of part always init
 
 around_most : (holds : ℕ → Bool) (part variables : ℕ) (filter voice init : Tree) → variables ≤ 113 →
     bytes_of part (around holds variables filter voice init) ≤ most_around part filter voice init
 around_most holds part variables filter voice init few =
     let last = replicate 1 always in
-    let after_voice = replicate 5 always ++ (parts holds always init ++ last) in
+    let after_voice = replicate 2 always ++ (parts holds always init ++ last) in
     let after_calls = parts holds always voice ++ after_voice in
     let after_filter = replicate 12 always ++ after_calls in
     let a = both part (replicate (7 + variables) always) (parts holds always filter ++ after_filter) in
     let b = both part (parts holds always filter) after_filter in
     let c = both part (replicate 12 always) after_calls in
     let d = both part (parts holds always voice) after_voice in
-    let e = both part (replicate 5 always) (parts holds always init ++ last) in
+    let e = both part (replicate 2 always) (parts holds always init ++ last) in
     let f = both part (parts holds always init) last in
     let n = plain_is part (7 + variables) in
     let front = no_longer (7 + variables) 120 (one_if part always) (omega (arith, few)) in
     let m = plain_is part 12 in
-    let l = plain_is part 5 in
+    let l = plain_is part 2 in
     let k = plain_is part 1 in
     let x = parts_are_bounded holds part always filter in
     let y = parts_are_bounded holds part always voice in
@@ -71,23 +72,23 @@ around_most holds part variables filter voice init few =
     omega (arith, a, b, c, d, e, f, n, front, m, l, k, x, y, z)
 
 -- the numbers, computed
-few_of : (start : Start) (variables part : ℕ) → part < 57 →
-    most_around part filter_tree voice_tree (init_tree start variables) ≤ 320
-few_of start variables part low =
+few_of : (start : Start) (cleared part : ℕ) → part < 58 →
+    most_around part filter_tree voice_tree (init_tree start cleared) ≤ 320
+few_of start cleared part low =
     leb-true _ 320
-    (agree_below_at (λ n. nat_le (most_around n filter_tree voice_tree (init_tree start variables)) 320) (λ n. true)
-    57 part refl low)
+    (agree_below_at (λ n. nat_le (most_around n filter_tree voice_tree (init_tree start cleared)) 320) (λ n. true)
+    58 part refl low)
 
-rest_of : (start : Start) (variables : ℕ) →
-    most_around always filter_tree voice_tree (init_tree start variables) ≤ 3070
-rest_of start variables = leb-true _ 3070 refl
+rest_of : (start : Start) (cleared : ℕ) →
+    most_around always filter_tree voice_tree (init_tree start cleared) ≤ 3070
+rest_of start cleared = leb-true _ 3070 refl
 
--- how many variables there are for what a song asks for and options, and what begins a subtune then
-abbrev variables_of : ℕ → Options → ℕ
-variables_of asked o = variable_count (holds_in (kept_set asked o))
+-- how many variables are cleared for what a song asks for and options, and what begins a subtune then
+abbrev cleared_by : ℕ → Options → ℕ
+cleared_by asked o = cleared_of (variable_count (holds_in (kept_set asked o)))
 
 abbrev begins : ℕ → Options → Tree
-begins asked o = init_tree (start_of o) (variables_of asked o)
+begins asked o = init_tree (start_of o) (cleared_by asked o)
 
 code_most : (asked : ℕ) (o : Options) (part : ℕ) →
     bytes_of part (code_parts asked o) ≤ most_around part filter_tree voice_tree (begins asked o)
@@ -100,13 +101,13 @@ no_more_than n m a b = omega (arith, a, b)
 
 pub parts_are_short : PartsAreShort
 parts_are_short asked o = record {
-  parts = λ part other. elim (cases_lt part 57) [
+  parts = λ part other. elim (cases_lt part 58) [
     | inl low ↦
         rw (ne_eqb part always other)
-        (no_more_than _ _ (code_most asked o part) (few_of (start_of o) (variables_of asked o) part low))
+        (no_more_than _ _ (code_most asked o part) (few_of (start_of o) (cleared_by asked o) part low))
     | inr high ↦ few _ (unkept_parts_have_none asked o part other (no_more asked o part high))
   ];
-  rest = with_zeros _ _ (code_most asked o always) (rest_of (start_of o) (variables_of asked o));
+  rest = with_zeros _ _ (code_most asked o always) (rest_of (start_of o) (cleared_by asked o));
 } where
   few : (n : ℕ) → n ≡ 0 → n ≤ 320
   few n e = omega (arith, e)
@@ -129,10 +130,10 @@ code_is_short asked o =
     let measured = are_measured in
     bounds _ _ _ _ _ _ _ _ (code_takes_its_parts asked o) (counts_are_few holds).1 (sizes_are_bounded holds filter_tree)
     (sizes_are_bounded holds voice_tree) (sizes_are_bounded holds (begins asked o)) measured.filter.takes_most
-    measured.voice.takes_most (measured.init start (variable_count holds)).takes_most
+    measured.voice.takes_most (measured.init start (cleared_by asked o)).takes_most
   where
-    bounds : (all n f v i mf mv mi : ℕ) → all ≡ 25 + n + f + v + i → n ≤ 113 → f ≤ mf → v ≤ mv → i ≤ mi → mf ≡ 102 →
-        mv ≡ 1336 → mi ≡ 90 → all + 2 ≤ 1668
+    bounds : (all n f v i mf mv mi : ℕ) → all ≡ 22 + n + f + v + i → n ≤ 113 → f ≤ mf → v ≤ mv → i ≤ mi → mf ≡ 102 →
+        mv ≡ 1336 → mi ≡ 92 → all + 2 ≤ 1667
     bounds all n f v i mf mv mi e few one two three four five six =
         omega (arith, e, few, one, two, three, four, five, six)
 
@@ -148,7 +149,7 @@ code_is_bounded asked features rows size range o few low =
     (frequencies_most range size low) (code_is_short asked o)
   where
     within : (shared slides frequencies code kept : ℕ) → shared ≤ 2 → slides ≤ 768 → frequencies ≤ 258 →
-        code ≤ 1668 → shared + slides + frequencies + code ≤ 3072 + 320 * kept
+        code ≤ 1667 → shared + slides + frequencies + code ≤ 3072 + 320 * kept
     within shared slides frequencies code kept a b c d = omega (arith, a, b, c, d)
 
 pub images_are_bounded : ImagesAreBounded

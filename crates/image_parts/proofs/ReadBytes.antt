@@ -5,13 +5,13 @@ use Rattle.std.proofs.Common.{arith}
 use Rattle.packed_form.specs.declared.packed_songs.PackedSong.{PackedSong}
 use Rattle.packed_form.specs.Sizes.{list_size, subtune_size, packed_song_size}
 use Rattle.player_memory.specs.declared.conditions.TheConstants.{NOTE_PULSE, NOTE_FILTER, NOTE_VIBRATO, VIBRATO_DELAY}
-use Rattle.player_memory.specs.declared.conditions.TheConstants.{LEGATO, NO_HARD_RESTART, OWN_TIMER, OWN_WAVE}
-use Rattle.player_memory.specs.SongLists.{unread, unread_size, shared_size, bytes_read, bytes_in_front}
-use Rattle.player_memory.proofs.Laws.{unread_few}
+use Rattle.player_memory.specs.declared.conditions.TheConstants.{LEGATO, NO_HARD_RESTART, OWN_TIMER, OWN_WAVE, SUBTUNES}
+use Rattle.player_memory.specs.SongLists.{unread, unread_size, unlisted_size, shared_size, bytes_read, bytes_in_front}
+use Rattle.player_memory.proofs.Laws.{unread_few, unlisted_few, subtunes_are_large}
 use Rattle.kept_lines.specs.Asked.{is_in, asked_by}
 use Rattle.kept_lines.proofs.Laws.{asked_is_exact}
 use Rattle.image_parts.specs.CodeParts.{zero_bytes}
-use Rattle.image_parts.specs.Lengths.{unread_of, unread_timers, unread_bytes, shared_bytes, read_of}
+use Rattle.image_parts.specs.Lengths.{unread_of, unread_timers, unread_bytes, unlisted_bytes, shared_bytes, read_of}
 
 -- of each instrument six bytes at most aren't read
 pub unread_most : (asked instruments : ℕ) → unread_bytes asked instruments ≤ 6 * instruments
@@ -71,12 +71,20 @@ shared_is packed =
     if_not : Bool → ℕ
     if_not own = if own then 0 else 1
 
+pub unlisted_is : (packed : PackedSong) →
+    unlisted_bytes (asked_by packed) (length packed.subtunes) ≡ unlisted_size packed
+unlisted_is packed =
+    ap (λ (z : Bool). if z then 0 else 6 * length packed.subtunes)
+    (asked_is_exact packed.features.0 packed.facts SUBTUNES)
+
 -- so the song's facts say what is read
 pub read_is : (packed : PackedSong) → read_of packed ≡ bytes_read packed
-read_is packed = all (packed_song_size packed) _ _ _ _ (shared_is packed) (unread_is packed)
+read_is packed =
+    all (packed_song_size packed) _ _ _ _ _ _ (shared_is packed) (unread_is packed) (unlisted_is packed)
   where
-    all : (size more shared less unread : ℕ) → more ≡ shared → less ≡ unread → size + more - less ≡ size + shared - unread
-    all size more shared less unread e f = rw (e, f) refl
+    all : (size more shared less unread none unlisted : ℕ) → more ≡ shared → less ≡ unread → none ≡ unlisted →
+        size + more - (less + none) ≡ size + shared - (unread + unlisted)
+    all size more shared less unread none unlisted e f g = rw (e, f, g) refl
 
 -- and it is what stands in front of the frequencies, but for the zeros
 pub front_is : (packed : PackedSong) → zero_bytes + read_of packed ≡ bytes_in_front packed
@@ -86,7 +94,8 @@ front_is packed = ap (λ (read : ℕ). zero_bytes + read) (read_is packed)
 pub read_most : (packed : PackedSong) → read_of packed ≤ packed_song_size packed + shared_bytes (asked_by packed)
 read_most packed =
     less (packed_song_size packed + shared_bytes (asked_by packed))
-    (unread_bytes (asked_by packed) (length packed.instruments))
+    (unread_bytes (asked_by packed) (length packed.instruments)
+    + unlisted_bytes (asked_by packed) (length packed.subtunes))
   where
     less : (size unread : ℕ) → size - unread ≤ size
     less size unread = omega arith
@@ -94,11 +103,14 @@ read_most packed =
 -- the speed table is read
 pub speeds_are_read : (packed : PackedSong) → length packed.speed ≤ read_of packed
 speeds_are_read packed =
-    within (sum_by subtune_size packed.subtunes + sum_by list_size packed.patterns) (length packed.instruments)
-    (length packed.wave) (length packed.pulse) (length packed.filter) (length packed.speed) (shared_size packed)
-    (unread_size packed) (read_of packed) (read_is packed) (unread_few packed)
+    within (length packed.subtunes) (sum_by subtune_size packed.subtunes) (sum_by list_size packed.patterns)
+    (length packed.instruments) (length packed.wave) (length packed.pulse) (length packed.filter) (length packed.speed)
+    (shared_size packed) (unread_size packed) (unlisted_size packed) (read_of packed) (read_is packed)
+    (unread_few packed) (unlisted_few packed) (subtunes_are_large packed.subtunes)
   where
-    within : (texts instruments wave pulse filter speed shared unread read : ℕ) →
-        read ≡ texts + 9 * instruments + 2 * wave + 2 * pulse + 2 * filter + 2 * speed + shared - unread →
-        unread ≤ 6 * instruments → speed ≤ read
-    within texts instruments wave pulse filter speed shared unread read is few = omega (arith, is, few)
+    within : (subtunes orders texts instruments wave pulse filter speed shared unread unlisted read : ℕ) →
+        read ≡ orders + texts + 9 * instruments + 2 * wave + 2 * pulse + 2 * filter + 2 * speed + shared
+        - (unread + unlisted) →
+        unread ≤ 6 * instruments → unlisted ≤ 6 * subtunes → 6 * subtunes ≤ orders → speed ≤ read
+    within subtunes orders texts instruments wave pulse filter speed shared unread unlisted read is few none large =
+        omega (arith, is, few, none, large)

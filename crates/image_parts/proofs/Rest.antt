@@ -21,6 +21,7 @@ use Rattle.kept_lines.proofs.Laws.{sets_are_exact}
 use Rattle.variable_places.specs.Places.{voice_rows, shared_rows, asks, has_byte, voice_labels, other_labels}
 use Rattle.variable_places.specs.Places.{free_places, funk_place, variable_count}
 use Rattle.variable_places.proofs.Laws.{counts_are_few, counts_rise, counts_are_no_fewer}
+use Rattle.player_code.specs.CodeLines.{cleared_of}
 use Rattle.image_parts.specs.CodeParts.{always}
 use Rattle.image_parts.specs.PartLaws.{in_place, RestIsExact, RestIsBounded}
 use Rattle.image_parts.proofs.Sums.{around}
@@ -82,16 +83,16 @@ in_place_of pulse volume effects timer wave =
 
 -- the bytes of three blocks, by a number of each
 abbrev of_blocks : (Tree → ℕ) → Start → ℕ → ℕ
-of_blocks number start variables =
-    number filter_tree + number voice_tree + number (init_tree start variables)
+of_blocks number start cleared =
+    number filter_tree + number voice_tree + number (init_tree start cleared)
 
 -- they have at least so many, and at most so many
 abbrev has_as_many : Start → ℕ → Bool → Bool → Bool → Bool → Bool → Bool
 has_as_many start variables pulse volume effects timer wave =
     nat_eq (of_blocks (λ tree. least_of always always (made pulse volume effects timer wave tree)) start variables)
-    (370 + in_place_of pulse volume effects timer wave)
+    (352 + in_place_of pulse volume effects timer wave)
     && nat_eq (of_blocks (λ tree. most_of always always (made pulse volume effects timer wave tree)) start variables)
-    (370 + in_place_of pulse volume effects timer wave)
+    (352 + in_place_of pulse volume effects timer wave)
 
 all_have_as_many : (start : Start) (variables : ℕ) → in_all_ways (has_as_many start variables) ≡ true
 all_have_as_many start variables = refl
@@ -107,13 +108,13 @@ between holds tree =
     (parts_are_there holds always always known, parts_are_bounded holds always always known)
 
 blocks_are : (holds : ℕ → Bool) (start : Start) (variables : ℕ) →
-    of_blocks (λ tree. bytes_of always (parts holds always tree)) start variables ≡ 370 + in_place holds
+    of_blocks (λ tree. bytes_of always (parts holds always tree)) start variables ≡ 352 + in_place holds
 blocks_are holds start variables =
     let both = and_parts
     (nat_eq (of_blocks (λ tree. least_of always always (made_by holds tree)) start variables)
-    (370 + in_place holds))
+    (352 + in_place holds))
     (nat_eq (of_blocks (λ tree. most_of always always (made_by holds tree)) start variables)
-    (370 + in_place holds))
+    (352 + in_place holds))
     (in_each (has_as_many start variables) (holds PULSE_TABLE) (holds SET_VOLUME) (holds EFFECTS) (holds OWN_TIMER)
     (holds OWN_WAVE) (all_have_as_many start variables)) in
     squeezed _ _ _ _ _ _ _ _ _ _ (between holds filter_tree) (between holds voice_tree)
@@ -126,23 +127,23 @@ blocks_are holds start variables =
 -- and with what stands around them
 around_is : (holds : ℕ → Bool) (variables : ℕ) (filter voice init : Tree) →
     bytes_of always (around holds variables filter voice init)
-    ≡ 25 + variables
+    ≡ 22 + variables
     + (bytes_of always (parts holds always filter) + bytes_of always (parts holds always voice)
     + bytes_of always (parts holds always init))
 around_is holds variables filter voice init =
     let last = replicate 1 always in
-    let after_voice = replicate 5 always ++ (parts holds always init ++ last) in
+    let after_voice = replicate 2 always ++ (parts holds always init ++ last) in
     let after_calls = parts holds always voice ++ after_voice in
     let after_filter = replicate 12 always ++ after_calls in
     let a = both always (replicate (7 + variables) always) (parts holds always filter ++ after_filter) in
     let b = both always (parts holds always filter) after_filter in
     let c = both always (replicate 12 always) after_calls in
     let d = both always (parts holds always voice) after_voice in
-    let e = both always (replicate 5 always) (parts holds always init ++ last) in
+    let e = both always (replicate 2 always) (parts holds always init ++ last) in
     let f = both always (parts holds always init) last in
     let n = plain_is always (7 + variables) in
     let m = plain_is always 12 in
-    let l = plain_is always 5 in
+    let l = plain_is always 2 in
     let k = plain_is always 1 in
     omega (arith, a, b, c, d, e, f, n, m, l, k)
 
@@ -150,11 +151,12 @@ pub rest_is_exact : RestIsExact
 rest_is_exact asked o =
     let holds = holds_in (kept_set asked o) in
     let variables = variable_count holds in
-    with_zeros _ variables _ _ (around_is holds variables filter_tree voice_tree (init_tree (start_of o) variables))
-    (blocks_are holds (start_of o) variables)
+    with_zeros _ variables _ _
+    (around_is holds variables filter_tree voice_tree (init_tree (start_of o) (cleared_of variables)))
+    (blocks_are holds (start_of o) (cleared_of variables))
   where
-    with_zeros : (all variables blocks more : ℕ) → all ≡ 25 + variables + blocks → blocks ≡ 370 + more →
-        all + 2 ≡ 397 + variables + more
+    with_zeros : (all variables blocks more : ℕ) → all ≡ 22 + variables + blocks → blocks ≡ 352 + more →
+        all + 2 ≡ 376 + variables + more
     with_zeros all variables blocks more e f = omega (arith, e, f)
 
 -- ---- how many variables there are where conditions hold, or don't
@@ -313,8 +315,8 @@ rest_is_bounded asked o =
       to = to _ (variable_count holds) (in_place holds) exact most;
     }
   where
-    from : (rest variables more : ℕ) → rest ≡ 397 + variables + more → 67 ≤ variables + more → 464 ≤ rest
+    from : (rest variables more : ℕ) → rest ≡ 376 + variables + more → 67 ≤ variables + more → 443 ≤ rest
     from rest variables more is least = omega (arith, is, least)
 
-    to : (rest variables more : ℕ) → rest ≡ 397 + variables + more → variables + more ≤ 120 → rest ≤ 517
+    to : (rest variables more : ℕ) → rest ≡ 376 + variables + more → variables + more ≤ 120 → rest ≤ 496
     to rest variables more is most = omega (arith, is, most)

@@ -16,6 +16,7 @@ use Rattle.kept_lines.specs.Starts.{start_of}
 use Rattle.kept_lines.specs.KeptLines.{kept_set}
 use Rattle.kept_lines.proofs.Laws.{sets_are_exact, no_more}
 use Rattle.variable_places.specs.Places.{variable_count}
+use Rattle.player_code.specs.CodeLines.{cleared_of}
 use Rattle.image_parts.specs.CodeParts.{always, code_parts, part_length}
 use Rattle.image_parts.specs.PartLaws.{CodeTakesItsParts, PartsAddUp, UnkeptPartsHaveNone}
 use Rattle.image_parts.proofs.Counts.{below, below_same, IsPart, counted, none_of}
@@ -25,7 +26,7 @@ abbrev pub around : (ℕ → Bool) → ℕ → Tree → Tree → Tree → List �
 around holds variables filter voice init =
     replicate (7 + variables) always ++ (parts holds always filter
     ++ (replicate 12 always ++ (parts holds always voice
-    ++ (replicate 5 always ++ (parts holds always init ++ replicate 1 always)))))
+    ++ (replicate 2 always ++ (parts holds always init ++ replicate 1 always)))))
 
 -- ---- as many as bytes
 
@@ -39,17 +40,17 @@ block holds tree rest =
 
 around_long : (holds : ℕ → Bool) (variables : ℕ) (filter voice init : Tree) →
     length (around holds variables filter voice init)
-    ≡ 25 + variables + size holds filter + size holds voice + size holds init
+    ≡ 22 + variables + size holds filter + size holds voice + size holds init
 around_long holds variables filter voice init =
     let last = replicate 1 always in
-    let after_voice = replicate 5 always ++ (parts holds always init ++ last) in
+    let after_voice = replicate 2 always ++ (parts holds always init ++ last) in
     let after_calls = parts holds always voice ++ after_voice in
     let after_filter = replicate 12 always ++ after_calls in
     let a = more (7 + variables) (parts holds always filter ++ after_filter) in
     let b = block holds filter after_filter in
     let c = more 12 after_calls in
     let d = block holds voice after_voice in
-    let e = more 5 (parts holds always init ++ last) in
+    let e = more 2 (parts holds always init ++ last) in
     let f = block holds init last in
     let g = length-replicate 1 always in
     omega (arith, a, b, c, d, e, f, g)
@@ -57,7 +58,8 @@ around_long holds variables filter voice init =
 pub code_takes_its_parts : CodeTakesItsParts
 code_takes_its_parts asked o =
     let holds = holds_in (kept_set asked o) in
-    around_long holds (variable_count holds) filter_tree voice_tree (init_tree (start_of o) (variable_count holds))
+    around_long holds (variable_count holds) filter_tree voice_tree
+    (init_tree (start_of o) (cleared_of (variable_count holds)))
 
 -- ---- which
 
@@ -70,7 +72,7 @@ all_around holds variables filter voice init =
     let few : (n : ℕ) → All (IsKept holds) (replicate n always) =
     (λ n. All-replicate (IsKept holds) n always (inl refl)) in
     let last = replicate 1 always in
-    let after_voice = replicate 5 always ++ (parts holds always init ++ last) in
+    let after_voice = replicate 2 always ++ (parts holds always init ++ last) in
     let after_calls = parts holds always voice ++ after_voice in
     let after_filter = replicate 12 always ++ after_calls in
     All-append (IsKept holds) (replicate (7 + variables) always) (parts holds always filter ++ after_filter)
@@ -78,38 +80,39 @@ all_around holds variables filter voice init =
     (All-append (IsKept holds) (parts holds always filter) after_filter (parts_are_kept holds always filter)
     (All-append (IsKept holds) (replicate 12 always) after_calls (few 12)
     (All-append (IsKept holds) (parts holds always voice) after_voice (parts_are_kept holds always voice)
-    (All-append (IsKept holds) (replicate 5 always) (parts holds always init ++ last) (few 5)
+    (All-append (IsKept holds) (replicate 2 always) (parts holds always init ++ last) (few 2)
     (All-append (IsKept holds) (parts holds always init) last (parts_are_kept holds always init) (few 1))))))
 
 kept_is : (asked : ℕ) (o : Options) → All (IsKept (holds_in (kept_set asked o))) (code_parts asked o)
 kept_is asked o =
     let holds = holds_in (kept_set asked o) in
-    all_around holds (variable_count holds) filter_tree voice_tree (init_tree (start_of o) (variable_count holds))
+    all_around holds (variable_count holds) filter_tree voice_tree
+    (init_tree (start_of o) (cleared_of (variable_count holds)))
 
--- a condition that holds is one of 57
-few_hold : (asked : ℕ) (o : Options) (part : ℕ) → holds_in (kept_set asked o) part ≡ true → part < 57
-few_hold asked o part holds = elim (cases_lt part 57) [
+-- a condition that holds is one of 58
+few_hold : (asked : ℕ) (o : Options) (part : ℕ) → holds_in (kept_set asked o) part ≡ true → part < 58
+few_hold asked o part holds = elim (cases_lt part 58) [
   | inl low ↦ low
   | inr high ↦
       absurd (true≢false (sym holds ∙ sets_are_exact asked o part ∙ no_more asked o part high))
 ]
 
-pub all_are_parts : (asked : ℕ) (o : Options) → All (IsPart always 57) (code_parts asked o)
+pub all_are_parts : (asked : ℕ) (o : Options) → All (IsPart always 58) (code_parts asked o)
 all_are_parts asked o =
-    All-weaker (IsKept (holds_in (kept_set asked o))) (IsPart always 57) weaker (code_parts asked o)
+    All-weaker (IsKept (holds_in (kept_set asked o))) (IsPart always 58) weaker (code_parts asked o)
     (kept_is asked o)
   where
-    weaker : (part : ℕ) → IsKept (holds_in (kept_set asked o)) part → IsPart always 57 part
+    weaker : (part : ℕ) → IsKept (holds_in (kept_set asked o)) part → IsPart always 58 part
     weaker part (inl is) = inl is
     weaker part (inr holds) = inr (few_hold asked o part holds)
 
 -- ---- sums
 
-sum_of_all : (number : ℕ → ℕ) → sum_by number (range_with_len 0 57) ≡ below number 57
+sum_of_all : (number : ℕ → ℕ) → sum_by number (range_with_len 0 58) ≡ below number 58
 sum_of_all number = omega arith
 
 -- a part below the last one is counted without the zeros
-own_bytes : (code : List ℕ) (part : ℕ) → part < 57 →
+own_bytes : (code : List ℕ) (part : ℕ) → part < 58 →
     bytes_of part code ≡ bytes_of part code + (if part == always then 2 else 0)
 own_bytes code part few =
     rw (ne_eqb part always (λ is. omega (arith, few, is))) (plain (bytes_of part code))
@@ -120,8 +123,8 @@ own_bytes code part few =
 pub parts_add_up : PartsAddUp
 parts_add_up asked o =
     let code = code_parts asked o in
-    let all = counted always 57 (omega arith) code (all_are_parts asked o) in
-    let same = below_same (λ part. bytes_of part code) (part_length asked o) 57 (own_bytes code) in
+    let all = counted always 58 (omega arith) code (all_are_parts asked o) in
+    let same = below_same (λ part. bytes_of part code) (part_length asked o) 58 (own_bytes code) in
     let sum = sum_of_all (part_length asked o) in
     add (length code) (bytes_of always code) _ _ _ all same sum
   where

@@ -26,6 +26,7 @@ read_bytes_are_measured = record {
   each = refl;
   own = refl;
   timers = refl;
+  subtunes = refl;
   both = refl;
   all = refl;
   others = refl;
@@ -97,19 +98,19 @@ note_asks packed is =
     ∙ note_asked
 
 -- how long their code is
-silence_with_none : code_length (2 ^ 37) no_options ≡ 480
+silence_with_none : code_length (2 ^ 37) no_options ≡ 459
 unfolding kept_set voice_rows shared_rows asks has_byte voice_labels other_labels free_places funk_place variable_count
 silence_with_none = refl
 
-silence_with_all : code_length (2 ^ 37) (all_left_out 4) ≡ 536
+silence_with_all : code_length (2 ^ 37) (all_left_out 4) ≡ 515
 unfolding kept_set voice_rows shared_rows asks has_byte voice_labels other_labels free_places funk_place variable_count
 silence_with_all = refl
 
-note_with_none : code_length (0x402000 + 2 ^ 41 + 2 ^ 44) no_options ≡ 650
+note_with_none : code_length (0x402000 + 2 ^ 41 + 2 ^ 44) no_options ≡ 629
 unfolding kept_set voice_rows shared_rows asks has_byte voice_labels other_labels free_places funk_place variable_count
 note_with_none = refl
 
-note_with_all : code_length (0x402000 + 2 ^ 41 + 2 ^ 44) (all_left_out 4) ≡ 706
+note_with_all : code_length (0x402000 + 2 ^ 41 + 2 ^ 44) (all_left_out 4) ≡ 685
 unfolding kept_set voice_rows shared_rows asks has_byte voice_labels other_labels free_places funk_place variable_count
 note_with_all = refl
 
@@ -120,39 +121,39 @@ all_of : (packed : PackedSong) (o : Options) (set own slides frequencies code : 
     image_length packed o ≡ own + slides + frequencies + code
 all_of packed o set own slides frequencies code asks owns slide listed is = rw (owns, asks, slide, listed, is) refl
 
-silence_size : (packed : PackedSong) → IsPackedSilence packed → read_of packed ≡ 24
+silence_size : (packed : PackedSong) → IsPackedSilence packed → read_of packed ≡ 18
 silence_size packed is =
     rw (silence_asks packed is, is.subtunes, is.patterns, is.instruments, is.wave, is.pulse, is.filter, is.speed) refl
 
-note_size : (packed : PackedSong) → IsPlayedNote packed → read_of packed ≡ 39
+note_size : (packed : PackedSong) → IsPlayedNote packed → read_of packed ≡ 33
 note_size packed is =
     let l = is.lists in
     rw (note_asks packed is, l.subtunes, l.patterns, l.instruments, l.wave, l.pulse, l.filter, l.speed) refl
 
-silence_lists : (packed : PackedSong) → IsPackedSilence packed → frequency_bytes packed.numbers 24 ≡ 0
-silence_lists packed is = ap (λ (range : NumberRange). frequency_bytes range 24) is.numbers
+silence_lists : (packed : PackedSong) → IsPackedSilence packed → frequency_bytes packed.numbers 18 ≡ 0
+silence_lists packed is = ap (λ (range : NumberRange). frequency_bytes range 18) is.numbers
 
-note_lists : (packed : PackedSong) → IsPlayedNote packed → frequency_bytes packed.numbers 39 ≡ 9
-note_lists packed is = ap (λ (range : NumberRange). frequency_bytes range 39) is.numbers
+note_lists : (packed : PackedSong) → IsPlayedNote packed → frequency_bytes packed.numbers 33 ≡ 15
+note_lists packed is = ap (λ (range : NumberRange). frequency_bytes range 33) is.numbers
 
 pub silences_are_measured : SilencesAreMeasured
 silences_are_measured packed is = record {
   with_none =
-      all_of packed no_options (2 ^ 37) 24 0 0 480 (silence_asks packed is) (silence_size packed is) refl
+      all_of packed no_options (2 ^ 37) 18 0 0 459 (silence_asks packed is) (silence_size packed is) refl
       (silence_lists packed is) silence_with_none;
   with_all =
-      all_of packed (all_left_out 4) (2 ^ 37) 24 0 0 536 (silence_asks packed is) (silence_size packed is) refl
+      all_of packed (all_left_out 4) (2 ^ 37) 18 0 0 515 (silence_asks packed is) (silence_size packed is) refl
       (silence_lists packed is) silence_with_all;
 }
 
 pub notes_are_measured : NotesAreMeasured
 notes_are_measured packed is = record {
   with_none =
-      all_of packed no_options (0x402000 + 2 ^ 41 + 2 ^ 44) 39 0 9 650 (note_asks packed is) (note_size packed is)
+      all_of packed no_options (0x402000 + 2 ^ 41 + 2 ^ 44) 33 0 15 629 (note_asks packed is) (note_size packed is)
       refl
       (note_lists packed is) note_with_none;
   with_all =
-      all_of packed (all_left_out 4) (0x402000 + 2 ^ 41 + 2 ^ 44) 39 0 9 706 (note_asks packed is)
+      all_of packed (all_left_out 4) (0x402000 + 2 ^ 41 + 2 ^ 44) 33 0 15 685 (note_asks packed is)
       (note_size packed is) refl
       (note_lists packed is) note_with_all;
 }

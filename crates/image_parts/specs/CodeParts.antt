@@ -9,14 +9,15 @@ use Rattle.player_text.specs.Texts.{filter_tree, voice_tree, init_tree}
 use Rattle.kept_lines.specs.Starts.{start_of}
 use Rattle.kept_lines.specs.KeptLines.{kept_set}
 use Rattle.variable_places.specs.Places.{variable_count}
+use Rattle.player_code.specs.CodeLines.{cleared_of}
 
 -- the part that each image has
 abbrev pub always : ℕ
 always = 255
 
 -- The bytes in front of the filter's block, with so many variables: two jumps of 3 bytes, the variables and `CLD`;
--- behind it those of the calls of the voices; behind the voices' block `RTS`, and `CLD` and `STA` of the beginning of a
--- subtune; and behind its block `RTS`. `CodeLines` has these lines.
+-- behind it those of the calls of the voices; behind the voices' block `RTS`, and `CLD` of the beginning of a subtune;
+-- and behind its block `RTS`. `CodeLines` has these lines.
 abbrev pub front_bytes : ℕ → ℕ
 front_bytes variables = 7 + variables
 
@@ -24,7 +25,7 @@ abbrev pub call_bytes : ℕ
 call_bytes = 12
 
 abbrev pub between_bytes : ℕ
-between_bytes = 5
+between_bytes = 2
 
 abbrev pub back_bytes : ℕ
 back_bytes = 1
@@ -40,7 +41,7 @@ parts_around holds init =
 abbrev pub code_parts : ℕ → Options → List ℕ
 code_parts asked o =
     parts_around (holds_in (kept_set asked o))
-    (init_tree (start_of o) (variable_count (holds_in (kept_set asked o))))
+    (init_tree (start_of o) (cleared_of (variable_count (holds_in (kept_set asked o)))))
 
 -- the two zeros that each image has among its lists, for row 0 of the sides of the speed table
 abbrev pub zero_bytes : ℕ

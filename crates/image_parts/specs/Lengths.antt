@@ -6,7 +6,7 @@ use Rattle.packed_form.specs.declared.packed_songs.PackedSong.{PackedSong}
 use Rattle.packed_form.specs.Sizes.{packed_song_size}
 use Rattle.player_memory.specs.declared.conditions.TheConstants.{NOTE_DEPENDENT, NOTE_PULSE, NOTE_FILTER}
 use Rattle.player_memory.specs.declared.conditions.TheConstants.{NOTE_VIBRATO, VIBRATO_DELAY, LEGATO, NO_HARD_RESTART}
-use Rattle.player_memory.specs.declared.conditions.TheConstants.{OWN_TIMER, OWN_WAVE}
+use Rattle.player_memory.specs.declared.conditions.TheConstants.{OWN_TIMER, OWN_WAVE, SUBTUNES}
 use Rattle.player_memory.specs.Gaps.{gap_in}
 use Rattle.kept_lines.specs.Asked.{is_in, asked_by}
 use Rattle.image_parts.specs.CodeParts.{zero_bytes, length_of, code_parts}
@@ -36,9 +36,14 @@ unread_bytes asked instruments =
 abbrev pub shared_bytes : ℕ → ℕ
 shared_bytes asked = (if is_in asked OWN_TIMER then 0 else 1) + (if is_in asked OWN_WAVE then 0 else 1)
 
--- what is read of a packed song of so many instruments and bytes, with what stands alone for all instruments
-abbrev pub read_bytes : ℕ → ℕ → ℕ → ℕ
-read_bytes asked instruments size = size + shared_bytes asked - unread_bytes asked instruments
+-- the addresses of the orderlists stand nowhere where there is one subtune alone: its voices begin with them
+abbrev pub unlisted_bytes : ℕ → ℕ → ℕ
+unlisted_bytes asked subtunes = if is_in asked SUBTUNES then 0 else 6 * subtunes
+
+-- what is read of a packed song of so many instruments, subtunes and bytes, with what stands alone for all instruments
+abbrev pub read_bytes : ℕ → ℕ → ℕ → ℕ → ℕ
+read_bytes asked instruments subtunes size =
+    size + shared_bytes asked - (unread_bytes asked instruments + unlisted_bytes asked subtunes)
 
 -- The frequencies of a range of numbers have two bytes each. In front of them stand the two zeros, so many bytes that
 -- are read of the packed song, and the zeros that fill the gap.
@@ -52,7 +57,8 @@ sum_of_image read slides range code = read + slides + frequency_bytes range read
 
 -- what is read of a packed song
 abbrev pub read_of : PackedSong → ℕ
-read_of packed = read_bytes (asked_by packed) (length packed.instruments) (packed_song_size packed)
+read_of packed =
+    read_bytes (asked_by packed) (length packed.instruments) (length packed.subtunes) (packed_song_size packed)
 
 -- so many has the image of a packed song whose code's bytes have these parts
 abbrev pub bytes_of_image : PackedSong → List ℕ → ℕ

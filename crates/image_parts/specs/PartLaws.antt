@@ -22,11 +22,11 @@ CodeTakesItsParts =
     length (code_parts asked o)
     ≡ code_takes (holds_in (kept_set asked o)) (start_of o) (variable_count (holds_in (kept_set asked o)))
 
--- the code is the part that each image has and the 57 others
+-- the code is the part that each image has and the 58 others
 abbrev pub PartsAddUp : Type 0
 PartsAddUp =
     (asked : ℕ) (o : Options) →
-    code_length asked o ≡ part_length asked o always + sum_by (part_length asked o) (range_with_len 0 57)
+    code_length asked o ≡ part_length asked o always + sum_by (part_length asked o) (range_with_len 0 58)
 
 -- a part whose condition doesn't hold has no bytes
 abbrev pub UnkeptPartsHaveNone : Type 0
@@ -50,25 +50,25 @@ in_place holds =
     (if holds PULSE_TABLE then 0 else 2) + (if holds SET_VOLUME then 0 else 2) + (if holds EFFECTS then 0 else 3)
     + (if holds OWN_TIMER then 0 else 6) + (if holds OWN_WAVE then 0 else 3)
 
--- the part that each image has is these, the variables, and 397 bytes with the zeros
+-- the part that each image has is these, the variables, and 376 bytes with the zeros
 abbrev pub RestIsExact : Type 0
 RestIsExact =
     (asked : ℕ) (o : Options) →
     part_length asked o always
-    ≡ 397 + variable_count (holds_in (kept_set asked o)) + in_place (holds_in (kept_set asked o))
+    ≡ 376 + variable_count (holds_in (kept_set asked o)) + in_place (holds_in (kept_set asked o))
 
 -- So it has no fewer than where the volume is set, instruments differ in their gateoff timers and in their first
 -- waveforms, and nothing else is asked for; and no more than where all is but these three.
 pub record RestIsWithin (asked : ℕ) (o : Options) : Type 0 where
-  pub from : 464 ≤ part_length asked o always
-  pub to : part_length asked o always ≤ 517
+  pub from : 443 ≤ part_length asked o always
+  pub to : part_length asked o always ≤ 496
 
 abbrev pub RestIsBounded : Type 0
 RestIsBounded = (asked : ℕ) (o : Options) → RestIsWithin asked o
 
 -- the code with the zeros takes at most what it does where all parts are kept
 abbrev pub CodeIsShort : Type 0
-CodeIsShort = (asked : ℕ) (o : Options) → code_length asked o ≤ 1668
+CodeIsShort = (asked : ℕ) (o : Options) → code_length asked o ≤ 1667
 
 -- an image is within the bound of a packed song and its player: the code with what stands alone for all instruments,
 -- with the slides, of 255 rows at most, and with the frequencies, up to that of number 128 at most, is within the

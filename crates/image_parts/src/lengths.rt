@@ -65,7 +65,8 @@ pub fn slide_bytes(asked: Conditions, rows: u32) -> u32
 }
 
 /// The bytes of a packed song that the player reads, and that stand in an image: those of the fields of instruments that
-/// no line reads are left out, and those that stand alone for all instruments come in.
+/// no line reads are left out, and the addresses of the orderlists of one subtune alone; those that stand alone for all
+/// instruments come in.
 pub fn read_size(packed: &PackedSong) -> u32
     ensures bytes { result ≡ read_of packed.now }
     ensures most { result ≤ 81041 }

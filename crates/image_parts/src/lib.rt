@@ -7,7 +7,7 @@
 //!
 //! The layer's one contract: the parts that are made for what a song asks for and for options are those of the code's
 //! blocks, byte for byte, with what stands around the blocks; they add up to the code; a part that isn't kept has none,
-//! each other one has at most 320 bytes and part 255 has 464 to 517; the code has at most 1,668; and an image is no
+//! each other one has at most 320 bytes and part 255 has 443 to 496; the code has at most 1,667; and an image is no
 //! longer than its packed song and the bound of a player.
 //!
 //! It makes no code. It stands on `player_text` for the blocks, on `player_code` for the lines around them, on

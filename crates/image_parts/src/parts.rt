@@ -10,6 +10,7 @@ ghost use Rattle.image_parts.specs.CodeParts.{always, parts_around, code_parts};
 use base::{ByteList, NoMemory};
 use kept_lines::{conditions, start_of};
 use play_model::Options;
+use player_memory::labels::FIRST_CLEARED;
 use player_text::texts;
 use scope_lines::{Conditions, Line};
 use scope_parts::push_parts;
@@ -25,8 +26,8 @@ const FRONT: u16 = 7;
 /// Those of the calls of the voices, behind the filter.
 const CALLS: u16 = 12;
 
-/// Those between the voices and the beginning of a subtune: `RTS`, `CLD` and `STA`.
-const BETWEEN: u16 = 5;
+/// Those between the voices and the beginning of a subtune: `RTS` and `CLD`.
+const BETWEEN: u16 = 2;
 
 /// Those behind it: `RTS`.
 const BACK: u16 = 1;
@@ -68,7 +69,7 @@ fn parts_around(
     Ok(list)
 }
 
-/// The part of each byte of an image's code, in order, for what a song asks for and for options: a condition, 0 to 56,
+/// The part of each byte of an image's code, in order, for what a song asks for and for options: a condition, 0 to 57,
 /// or 255.
 ///
 /// # Errors
@@ -81,7 +82,8 @@ pub fn code_parts(alloc: Global, asked: Conditions, options: &Options) -> Result
     let voice = texts::voice(alloc)?;
     let conditions = conditions(asked, *options);
     let variables = variable_places(conditions).count;
-    let init = texts::init(alloc, start_of(options), variables)?;
+    let cleared = variables - FIRST_CLEARED as u8;
+    let init = texts::init(alloc, start_of(options), cleared)?;
     parts_around(
         alloc,
         conditions,

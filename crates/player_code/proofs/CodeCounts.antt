@@ -14,7 +14,7 @@ use Rattle.player_memory.specs.declared.labels.TheConstants.{VARIABLES}
 use Rattle.player_text.specs.declared.texts.Start.{Start}
 use Rattle.player_code.specs.declared.labels.TheConstants.{PLAY_CODE}
 use Rattle.player_code.specs.CodeLines.{name, byte_line, names_at, variable_lines, front_lines, middle_lines}
-use Rattle.player_code.specs.CodeLines.{lines_around, code_lines, play_entrance, init_entrance}
+use Rattle.player_code.specs.CodeLines.{lines_around, code_lines, play_entrance, init_entrance, cleared_of}
 use Rattle.player_code.specs.CodeLaws.{code_takes}
 use Rattle.player_code.proofs.Sizes.{around_size}
 use Rattle.player_code.proofs.CodeSizes.{code_takes_its_blocks}
@@ -175,7 +175,7 @@ pub code_is_few : (places : ℕ → ℕ) (variables : List ℕ) (pointer : ℕ) 
     (length variables)
 code_is_few places variables pointer holds start =
     let its_play = play_entrance pointer holds in
-    let its_init = init_entrance pointer holds start (length variables) in
+    let its_init = init_entrance pointer holds start (cleared_of (length variables)) in
     let few = around_is places variables its_play its_init in
     let lines = few.lines in
     let whole = around_size places variables its_play its_init in

@@ -12,6 +12,8 @@ pub use Rattle.player_code.proofs.Whole.{kept_is}
 pub use Rattle.player_code.proofs.CodeCounts.{code_is_few, data_append}
 -- the code of both stands in a memory with its bytes
 pub use Rattle.player_code.proofs.Stands.{assembled_code_stands, fewer}
+-- the lines that begin a subtune are a block
+pub use Rattle.player_code.proofs.Fits.{init_is_block}
 -- how many bytes the code takes
 pub use Rattle.player_code.proofs.CodeSizes.{code_takes_its_blocks}
 pub use Rattle.player_code.proofs.WorkedCode.{code_is_measured}

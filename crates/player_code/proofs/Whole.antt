@@ -10,10 +10,9 @@ use Rattle.scopes.specs.Desk.{Layout}
 use Rattle.scope_lines.specs.Lowered.{writes_at}
 use Rattle.scope_calls.specs.Entrances.{entrance_lines, entrance_size}
 use Rattle.scope_calls.specs.Listed.{end_at, listing_at, layout_at, low_at, high_at, IsWellEntered}
-use Rattle.player_memory.specs.declared.labels.TheConstants.{REST}
 use Rattle.player_code.specs.declared.labels.TheConstants.{INIT_CODE, PLAY_CODE}
 use Rattle.player_code.specs.CodeLines.{front_lines, middle_lines}
-use Rattle.player_code.specs.CodeLines.{play_entrance, init_entrance}
+use Rattle.player_code.specs.CodeLines.{play_entrance, init_entrance, cleared_of}
 use Rattle.player_code.specs.Plans.{Plan, IsPlan, plan_code, plan_lines, code_size, plan_size, plan_layout, its_play}
 use Rattle.player_code.specs.Plans.{its_init, play_listed, init_listed}
 use Rattle.player_code.specs.CodeLaws.{CodeAssembles, EntrancesAreInOneListing}
@@ -36,7 +35,8 @@ code_kept plan = code_is_kept plan.places plan.variables (its_play plan) (its_in
 init_fit : (plan : Plan) → IsPlan plan → IsFit (its_init plan)
 init_fit plan is =
     let few = is.variables_high in
-    init_fits plan.pointer plan.holds plan.start (length plan.variables) is.start (omega (arith, few)) is.pointer_high
+    init_fits plan.pointer plan.holds plan.start (cleared_of (length plan.variables)) is.start (omega (arith, few))
+    is.pointer_high
 
 pub code_assembles : CodeAssembles
 code_assembles plan is fits =
@@ -198,7 +198,6 @@ play_entered plan is begins ends apart =
           (omega (arith, low)) (omega (arith, low, all));
       writes_off_stack = λ place w.
           apart.off_stack place (writes_of plan (layout_at (play_listed plan)) place layout w);
-      stored_outside = λ label e. absurd (cc);
       pointer_low = is.pointer_low;
       pointer_high = is.pointer_high;
     }
@@ -216,8 +215,6 @@ init_entered plan is begins ends apart =
     let high = in_place.init_high in
     let first = in_place.play_low in
     let end = ends_with plan (listing_at (init_listed plan)) is (init_listing plan) in
-    let rest = ap (λ (l : Layout). l.address REST) layout ∙ in_place.variables REST (omega arith) in
-    let below = is.places REST (omega arith) in
     record {
       lines = fit.lines;
       assembles = assembles_with plan (listing_at (init_listed plan)) (init_listing plan)
@@ -235,10 +232,6 @@ init_entered plan is begins ends apart =
           (omega (arith, low, first)) (omega (arith, high));
       writes_off_stack = λ place w.
           apart.off_stack place (writes_of plan (layout_at (init_listed plan)) place layout w);
-      stored_outside = λ label e.
-          inl (let same : REST ≡ label = cc in
-          subst (λ l. (layout_at (init_listed plan)).address l < low_at (init_listed plan)) same
-          (omega (arith, rest, below, low, first)));
       pointer_low = is.pointer_low;
       pointer_high = is.pointer_high;
     }

@@ -16,11 +16,11 @@ use Rattle.scope_lines.proofs.Laws.{sizes_are_bounded}
 use Rattle.player_text.specs.Texts.{filter_tree, voice_tree, init_tree}
 use Rattle.player_text.specs.Facts.{is_list, is_filter_list, is_order_list}
 use Rattle.player_text.proofs.Laws.{are_measured}
-use Rattle.player_memory.specs.declared.labels.TheConstants.{VARIABLES, LENT, FREQUENCY_LOWS, ONE_WAVE, SLIDES_LOW}
-use Rattle.player_memory.specs.declared.labels.TheConstants.{SLIDES_HIGH, FILTER_LEFTS, NEXT_FILTER_LEFTS}
+use Rattle.player_memory.specs.declared.labels.TheConstants.{VARIABLES, FIRST_CLEARED, LENT, FREQUENCY_LOWS, ONE_WAVE}
+use Rattle.player_memory.specs.declared.labels.TheConstants.{SLIDES_LOW, SLIDES_HIGH, FILTER_LEFTS, NEXT_FILTER_LEFTS}
 use Rattle.player_memory.specs.declared.labels.TheConstants.{FILTER_RIGHTS, ORDERS_LOW, ORDERS_HIGH}
 use Rattle.player_code.specs.declared.labels.TheConstants.{INIT_CODE}
-use Rattle.player_code.specs.CodeLines.{name, byte_line, names_at}
+use Rattle.player_code.specs.CodeLines.{name, byte_line, names_at, cleared_of}
 use Rattle.player_code.specs.Plans.{IsListLine, IsData, Plan, IsPlan, is_read, code_size}
 use Rattle.player_code.specs.WorkedCode.{labelled_lines, worked_lists, plan_with}
 use Rattle.player_code.specs.WorkedCode.{VariablesAreNamed, PlansAreMet, PlansAreRefused, CodeIsMeasured}
@@ -134,7 +134,7 @@ worked_is = record {
 -- ---- plans
 
 module _ (places : ℕ → ℕ) (variables : ℕ) (holds : ℕ → Bool) where
-  plan_is : 1 ≤ variables → variables ≤ VARIABLES → ((label : ℕ) → label < VARIABLES → places label < variables) →
+  plan_is : FIRST_CLEARED < variables → variables ≤ VARIABLES → ((label : ℕ) → label < VARIABLES → places label < variables) →
       IsPlan (plan_with places variables holds)
   plan_is some few below =
       let count = length-replicate {A = ℕ} variables 0 in record {
@@ -165,27 +165,27 @@ plans_are_refused = record {
 takes : (plan : Plan) → code_size plan ≡ code_takes plan.holds plan.start (length plan.variables)
 takes plan = code_takes_its_blocks plan.places plan.variables plan.pointer plan.holds plan.start
 
-sums : (all variables filter voice init n f v i : ℕ) → all ≡ 25 + n + f + v + i → n ≡ variables → f ≡ filter →
-    v ≡ voice → i ≡ init → all ≡ 25 + variables + filter + voice + init
+sums : (all variables filter voice init n f v i : ℕ) → all ≡ 22 + n + f + v + i → n ≡ variables → f ≡ filter →
+    v ≡ voice → i ≡ init → all ≡ 22 + variables + filter + voice + init
 sums all variables filter voice init n f v i e count one two three = omega (arith, e, count, one, two, three)
 
-bounds : (all n f v i mf mv mi : ℕ) → all ≡ 25 + n + f + v + i → n ≤ 113 → f ≤ mf → v ≤ mv → i ≤ mi → mf ≡ 102 →
-    mv ≡ 1336 → mi ≡ 90 → all ≤ 1666
+bounds : (all n f v i mf mv mi : ℕ) → all ≡ 22 + n + f + v + i → n ≤ 113 → f ≤ mf → v ≤ mv → i ≤ mi → mf ≡ 102 →
+    mv ≡ 1336 → mi ≡ 92 → all ≤ 1665
 bounds all n f v i mf mv mi e few one two three four five six = omega (arith, e, few, one, two, three, four, five, six)
 
 bare : (places : ℕ → ℕ) (variables : ℕ) →
-    code_size (plan_with places variables (λ condition. false)) ≡ 25 + variables + 16 + 306 + 64
+    code_size (plan_with places variables (λ condition. false)) ≡ 22 + variables + 16 + 306 + 46
 bare places variables =
     let plan = plan_with places variables (λ condition. false) in
-    let init = are_measured.init plan.start (length plan.variables) in
+    let init = are_measured.init plan.start (cleared_of (length plan.variables)) in
     sums _ _ _ _ _ _ _ _ _ (takes plan) (length-replicate {A = ℕ} variables 0) are_measured.filter.takes_bare
     are_measured.voice.takes_bare init.takes_bare
 
 full : (places : ℕ → ℕ) (variables : ℕ) →
-    code_size (plan_with places variables (λ condition. true)) ≡ 25 + variables + 102 + 1336 + 90
+    code_size (plan_with places variables (λ condition. true)) ≡ 22 + variables + 102 + 1336 + 92
 full places variables =
     let plan = plan_with places variables (λ condition. true) in
-    let init = are_measured.init plan.start (length plan.variables) in
+    let init = are_measured.init plan.start (cleared_of (length plan.variables)) in
     sums _ _ _ _ _ _ _ _ _ (takes plan) (length-replicate {A = ℕ} variables 0) are_measured.filter.takes_full
     are_measured.voice.takes_full init.takes_full
 
@@ -198,8 +198,8 @@ code_is_measured = record {
   most = λ plan is.
       bounds _ _ _ _ _ _ _ _ (takes plan) is.variables_high (sizes_are_bounded plan.holds filter_tree)
       (sizes_are_bounded plan.holds voice_tree)
-      (sizes_are_bounded plan.holds (init_tree plan.start (length plan.variables))) are_measured.filter.takes_most
-      are_measured.voice.takes_most (are_measured.init plan.start (length plan.variables)).takes_most;
+      (sizes_are_bounded plan.holds (init_tree plan.start (cleared_of (length plan.variables)))) are_measured.filter.takes_most
+      are_measured.voice.takes_most (are_measured.init plan.start (cleared_of (length plan.variables))).takes_most;
 }
 
 -- ---- no lists

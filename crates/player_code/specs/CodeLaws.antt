@@ -13,7 +13,7 @@ use Rattle.scope_calls.specs.Listed.{listing_at, layout_at, low_at, high_at, Has
 use Rattle.player_memory.specs.declared.labels.TheConstants.{VARIABLES}
 use Rattle.player_text.specs.declared.texts.Start.{Start}
 use Rattle.player_text.specs.Texts.{filter_tree, voice_tree, init_tree}
-use Rattle.player_code.specs.CodeLines.{code_lines}
+use Rattle.player_code.specs.CodeLines.{cleared_of, code_lines}
 use Rattle.player_code.specs.declared.labels.TheConstants.{INIT_CODE, PLAY_CODE}
 use Rattle.player_code.specs.Plans.{Plan, IsPlan, plan_lines, plan_size, code_size, plan_layout, its_play, its_init}
 use Rattle.player_code.specs.Plans.{play_listed, init_listed}
@@ -51,11 +51,12 @@ pub record AreInPlace (plan : Plan) : Type 0 where
 abbrev pub LabelsStandInPlace : Type 0
 LabelsStandInPlace = (plan : Plan) → IsPlan plan → AreInPlace plan
 
--- The code takes 25 bytes around its variables and its blocks: the jumps 6, and the entrances 14 and 5. So its size is
+-- The code takes 22 bytes around its variables and its blocks: the jumps 6, and the entrances 14 and 2. So its size is
 -- the same wherever the variables are, for any bytes of theirs and any place of the pointer.
 abbrev pub code_takes : (ℕ → Bool) → Start → ℕ → ℕ
 code_takes holds start variables =
-    25 + variables + size holds filter_tree + size holds voice_tree + size holds (init_tree start variables)
+    22 + variables + size holds filter_tree + size holds voice_tree
+    + size holds (init_tree start (cleared_of variables))
 
 abbrev pub CodeTakesItsBlocks : Type 0
 CodeTakesItsBlocks =

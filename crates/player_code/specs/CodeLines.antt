@@ -1,6 +1,7 @@
 -- The lines of an image in front of its lists: two jumps, the variables, and the code of two entrances, that which plays
 -- a frame and that which begins a subtune. This is the project's own player.
-use Rattle.std.specs.Prelude.{ℕ, ◌+◌, Bool, nat_eq, List, [], ◌∷◌, ◌++◌, length, map, filter, Some, None}
+use Rattle.std.specs.Prelude.{ℕ, ◌+◌, ◌-◌, Bool, true, false, nat_eq, List, [], ◌∷◌, ◌++◌, length, map, filter}
+use Rattle.std.specs.Prelude.{Some, None}
 use Rattle.std.specs.List.{range_with_len}
 use Rattle.cpu6502.specs.declared.mnemonic.Mnemonic.TheVariants.{Jmp}
 use Rattle.cpu6502.specs.declared.mnemonic.Mode.TheVariants.{Absolute}
@@ -9,7 +10,7 @@ use Rattle.asm6502.specs.declared.lines.Item.TheVariants.{Label, Bytes}
 use Rattle.asm6502.specs.declared.lines.Line.{Line}
 use Rattle.scope_lines.specs.Instructions.{code}
 use Rattle.scope_calls.specs.Entrances.{Entrance, entrance_lines}
-use Rattle.player_memory.specs.declared.labels.TheConstants.{VARIABLES, REST}
+use Rattle.player_memory.specs.declared.labels.TheConstants.{VARIABLES, FIRST_CLEARED}
 use Rattle.player_text.specs.declared.texts.Start.{Start}
 use Rattle.player_text.specs.Texts.{filter_tree, voice_tree, init_tree}
 use Rattle.player_code.specs.declared.labels.TheConstants.{INIT_CODE, PLAY_CODE}
@@ -49,25 +50,27 @@ variable_lines places first (byte ∷ bytes) =
 unfoldable pub play_entrance : ℕ → (ℕ → Bool) → Entrance
 play_entrance pointer holds = record {
   label = PLAY_CODE;
-  stored = None;
+  numbered = false;
   first = filter_tree;
   voice = Some voice_tree;
   pointer = pointer;
   holds = holds;
 }
 
--- A subtune, whose number comes in A, where the variables take so many bytes. It is stored where the rests of a voice
--- are told, which each player has and the block clears: so what the code does rests on that byte, and on nothing else
--- that a caller leaves.
+-- a subtune, whose number comes in A, where so many bytes of the variables are cleared
 unfoldable pub init_entrance : ℕ → (ℕ → Bool) → Start → ℕ → Entrance
-init_entrance pointer holds start variables = record {
+init_entrance pointer holds start cleared = record {
   label = INIT_CODE;
-  stored = Some REST;
-  first = init_tree start variables;
+  numbered = true;
+  first = init_tree start cleared;
   voice = None;
   pointer = pointer;
   holds = holds;
 }
+
+-- how many bytes are cleared where the variables take so many: all behind those that never are
+abbrev pub cleared_of : ℕ → ℕ
+cleared_of variables = variables - FIRST_CLEARED
 
 -- ---- all of it
 
@@ -91,4 +94,5 @@ lines_around places variables play init =
 -- page 0, the conditions that hold, and the numbers with which a subtune begins
 abbrev pub code_lines : (ℕ → ℕ) → List ℕ → ℕ → (ℕ → Bool) → Start → List Line
 code_lines places variables pointer holds start =
-    lines_around places variables (play_entrance pointer holds) (init_entrance pointer holds start (length variables))
+    lines_around places variables (play_entrance pointer holds)
+    (init_entrance pointer holds start (cleared_of (length variables)))

@@ -8,11 +8,12 @@ use Rattle.asm6502.specs.Stretches.{NamesNoLabelTwice, IsNamedAlways}
 use Rattle.scopes.specs.Desk.{Layout}
 use Rattle.scope_calls.specs.Entrances.{Entrance, entrance_lines}
 use Rattle.scope_calls.specs.Listed.{Listed}
-use Rattle.player_memory.specs.declared.labels.TheConstants.{VARIABLES}
+use Rattle.player_memory.specs.declared.labels.TheConstants.{VARIABLES, FIRST_CLEARED}
 use Rattle.player_text.specs.Facts.{HasBytes, is_list, is_filter_list, is_order_list}
 use Rattle.player_text.specs.declared.texts.Start.{Start}
 use Rattle.player_code.specs.declared.labels.TheConstants.{INIT_CODE}
-use Rattle.player_code.specs.CodeLines.{play_entrance, init_entrance, front_lines, middle_lines, code_lines}
+use Rattle.player_code.specs.CodeLines.{play_entrance, init_entrance, cleared_of, front_lines, middle_lines}
+use Rattle.player_code.specs.CodeLines.{code_lines}
 
 -- ---- the lists behind the code
 
@@ -53,9 +54,10 @@ pub record Plan : Type 0 where
   pub may_read : ℕ → Bool
   pub may_write : ℕ → Bool
 
--- what is asked of them: there is a byte, but not more than labels, and each label's place is one of the bytes'
+-- what is asked of them: there are bytes behind those that are never cleared, but not more than labels, and each
+-- label's place is one of the bytes'
 pub record IsPlan (plan : Plan) : Type 0 where
-  pub variables_low : 1 ≤ length plan.variables
+  pub variables_low : FIRST_CLEARED < length plan.variables
   pub variables_high : length plan.variables ≤ VARIABLES
   pub places : (label : ℕ) → label < VARIABLES → plan.places label < length plan.variables
   pub pointer_low : 2 ≤ plan.pointer
@@ -93,7 +95,7 @@ abbrev pub its_play : Plan → Entrance
 its_play plan = play_entrance plan.pointer plan.holds
 
 abbrev pub its_init : Plan → Entrance
-its_init plan = init_entrance plan.pointer plan.holds plan.start (length plan.variables)
+its_init plan = init_entrance plan.pointer plan.holds plan.start (cleared_of (length plan.variables))
 
 -- play is entered 3 bytes behind the first byte of the image
 abbrev pub play_listed : Plan → Listed

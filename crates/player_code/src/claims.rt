@@ -17,7 +17,7 @@ pub fn labels_stand_in_place()
     ensures place { LabelsStandInPlace }
 {}
 
-/// The code takes the bytes of its variables and of its blocks, and 25 around them, whatever these bytes are and
+/// The code takes the bytes of its variables and of its blocks, and 22 around them, whatever these bytes are and
 /// wherever they and the pointer are.
 pub fn code_takes_its_blocks()
     ensures { CodeTakesItsBlocks }

@@ -1,8 +1,9 @@
 //! The lines of the code.
 
-ghost use Rattle.std.specs.Prelude.{◌≡◌, ◌≤◌, ◌++◌, ◌∷◌, [], length, slice_index, OnOk, IfOk};
+ghost use Rattle.std.specs.Prelude.{◌≡◌, ◌<◌, ◌≤◌, ◌++◌, ◌∷◌, [], length, slice_index, OnOk, IfOk};
 ghost use Rattle.scope_lines.specs.Readings.{holds_in};
 ghost use Rattle.scope_calls.specs.Entrances.{entrance_lines};
+ghost use Rattle.player_memory.specs.declared.labels.TheConstants.{FIRST_CLEARED};
 ghost use Rattle.player_text.specs.Texts.{filter_lines, voice_lines, init_lines};
 ghost use Rattle.player_code.specs.CodeLines.{jump_to, name, byte_line, names_at, variable_lines, jump_lines};
 ghost use Rattle.player_code.specs.CodeLines.{front_lines, play_entrance, init_entrance, middle_lines, code_lines};
@@ -11,7 +12,7 @@ use crate::labels::{INIT_CODE, PLAY_CODE};
 use asm6502::{Item, Line, Listing, Operand};
 use base::{ByteList, NoMemory};
 use cpu6502::{Mnemonic, Mode};
-use player_memory::labels::REST;
+use player_memory::labels::FIRST_CLEARED;
 use player_text::texts::{self, Start};
 use scope_calls::{Setup, push_entrance};
 use scope_lines::{Conditions, Line as Text};
@@ -116,7 +117,7 @@ fn push_frame(
 {
     let setup = Setup {
         label: PLAY_CODE,
-        stored: None,
+        numbered: false,
         pointer: zero_page,
         conditions,
     };
@@ -152,17 +153,17 @@ fn push_subtune(
     zero_page: u8,
     conditions: Conditions,
     start: Start,
-    variables: u8,
+    cleared: u8,
     init: &[Text],
 ) -> Result<(), NoMemory>
-    requires { init.now ≡ init_lines start variables }
+    requires { init.now ≡ init_lines start cleared }
     ensures { OnOk result (listing.new
-        ≡ listing.old ++ entrance_lines (init_entrance zero_page (holds_in conditions.0) start variables)) }
+        ≡ listing.old ++ entrance_lines (init_entrance zero_page (holds_in conditions.0) start cleared)) }
 {
-    let (_start, _variables) = (start, variables);
+    let (_start, _cleared) = (start, cleared);
     let setup = Setup {
         label: INIT_CODE,
-        stored: Some(REST),
+        numbered: true,
         pointer: zero_page,
         conditions,
     };
@@ -176,27 +177,28 @@ fn push_init(
     zero_page: u8,
     conditions: Conditions,
     start: Start,
-    variables: u8,
+    cleared: u8,
 ) -> Result<(), NoMemory>
-    requires { 1 ≤ variables }
+    requires { 1 ≤ cleared }
     ensures { OnOk result (listing.new
-        ≡ listing.old ++ entrance_lines (init_entrance zero_page (holds_in conditions.0) start variables)) }
+        ≡ listing.old ++ entrance_lines (init_entrance zero_page (holds_in conditions.0) start cleared)) }
 {
-    let init = texts::init(alloc, start, variables)?;
+    let init = texts::init(alloc, start, cleared)?;
     push_subtune(
         alloc,
         listing,
         zero_page,
         conditions,
         start,
-        variables,
+        cleared,
         init.as_slice(),
     )
 }
 
-/// The lines of an image in front of its lists: two jumps, the variables with the bytes that they begin with, 1 to 113,
-/// behind the names of those of the 113 labels that have their place, and the code, of which those lines are kept whose
-/// conditions hold. The pointer is at two bytes of page 0, from 2 to 254.
+/// The lines of an image in front of its lists: two jumps, the variables with the bytes that they begin with, 22 to
+/// 113, behind the names of those of the 113 labels that have their place, and the code, of which those lines are kept
+/// whose conditions hold. The first 21 variables aren't cleared when a subtune begins. The pointer is at two bytes of
+/// page 0, from 2 to 254.
 ///
 /// # Errors
 ///
@@ -209,7 +211,7 @@ pub fn code_listing(
     conditions: Conditions,
     start: Start,
 ) -> Result<Listing, NoMemory>
-    requires some { 1 ≤ length variables.now }
+    requires some { FIRST_CLEARED < length variables.now }
     requires most { length variables.now ≤ 113 }
     ensures { IfOk result (λ listing. listing
         ≡ code_lines (slice_index places.now) variables.now zero_page (holds_in conditions.0) start) }
@@ -223,7 +225,7 @@ pub fn code_listing(
         zero_page,
         conditions,
         start,
-        variables.len() as u8,
+        variables.len() as u8 - FIRST_CLEARED as u8,
     )?;
     Ok(listing)
 }
