@@ -4,13 +4,13 @@ use Rattle.packed_form.specs.declared.packed_songs.PackedSong.{PackedSong}
 use Rattle.image_parts.specs.WorkedLengths.{IsPlayedNote}
 use Rattle.player_build.specs.Room.{IsTooLarge}
 
--- $CD46 and 698 bytes are $D000; the last page from which the image has room is $CD00; and its length is told
+-- $CD5B and 677 bytes are $D000; the last page from which the image has room is $CD00; and its length is told
 pub record NoteHasRoom (packed : PackedSong) : Type 0 where
-  pub just : IsTooLarge packed no_options 0xCD46 698 → ⊥
-  pub past : IsTooLarge packed no_options 0xCD47 698
-  pub last_page : IsTooLarge packed no_options 0xCD00 698 → ⊥
-  pub next_page : IsTooLarge packed no_options 0xCE00 698
-  pub other_length : IsTooLarge packed no_options 0xCE00 699 → ⊥
+  pub just : IsTooLarge packed no_options 0xCD5B 677 → ⊥
+  pub past : IsTooLarge packed no_options 0xCD5C 677
+  pub last_page : IsTooLarge packed no_options 0xCD00 677 → ⊥
+  pub next_page : IsTooLarge packed no_options 0xCE00 677
+  pub other_length : IsTooLarge packed no_options 0xCE00 678 → ⊥
 
 abbrev pub NotesHaveRoom : Type 0
 NotesHaveRoom = (packed : PackedSong) → IsPlayedNote packed → NoteHasRoom packed

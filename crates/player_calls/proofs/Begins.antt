@@ -1,9 +1,9 @@
 -- An init: the call that begins a subtune, in any machine that holds the player and its lists.
-use Rattle.std.proofs.Common.{◌≡◌, ◌⊎◌, ℕ, ◌+◌, ◌<◌, ◌≤◌, ◌||◌, Bool, true, false, List, length, replicate}
+use Rattle.std.proofs.Common.{◌≡◌, ◌⊎◌, ℕ, ◌+◌, ◌*◌, ◌/◌, ◌%◌, ◌<◌, ◌≤◌, ◌||◌, Bool, true, false, List, length, replicate}
 use Rattle.std.proofs.Common.{if◌then◌else◌, inl, inr, refl, sym, ap, ◌∙◌}
 use Rattle.std.proofs.Common.{subst, arith}
 use Rattle.std.specs.Prelude.{slice_index}
-use Rattle.std.proofs.lemmas.Bool.{or_cases, lt-ltb}
+use Rattle.std.proofs.lemmas.Bool.{or_cases, lt-ltb, cases_lt, both_ways}
 use Rattle.std.proofs.lemmas.List.{get_or-replicate}
 use Rattle.std.proofs.lemmas.List.Elements.{All-get_or, filter_passes}
 use Rattle.std.proofs.lemmas.Option.{unwrap_or-slice_get}
@@ -12,6 +12,7 @@ use Rattle.song_model.specs.LookUp.{is_playable_subtune, playable_subtunes, play
 use Rattle.play_model.specs.declared.options.Options.{Options}
 use Rattle.play_model.specs.Frame.{subtune_at, state_after_with, trace_with}
 use Rattle.play_model.specs.State.{FrameState, start_state}
+use Rattle.song_facts.specs.declared.facts.Fact.TheVariants.{Subtunes}
 use Rattle.packed_form.specs.declared.packed_songs.PackedSong.{PackedSong}
 use Rattle.packed_form.specs.Unpacked.{unpacked_song, packed_state}
 use Rattle.cpu6502.specs.declared.machine.Machine.{Machine}
@@ -25,17 +26,18 @@ use Rattle.scope_calls.specs.Meaning.{entrance_ran}
 use Rattle.scope_calls.specs.Listed.{HasCode, entrance_desk, meant}
 use Rattle.scope_calls.specs.EntranceLaws.{Returns}
 use Rattle.scope_calls.proofs.Laws.{entrances_return, code_stays}
-use Rattle.player_memory.specs.declared.conditions.TheConstants.{TIMED}
-use Rattle.player_memory.specs.declared.labels.TheConstants.{VARIABLES, FIRST_VARIABLE}
+use Rattle.player_memory.specs.declared.conditions.TheConstants.{TIMED, SUBTUNES}
+use Rattle.player_memory.specs.declared.labels.TheConstants.{VARIABLES, FIRST_CLEARED, ORDER_LOW, ORDER_HIGH}
 use Rattle.player_memory.specs.SongLists.{HasSongLists}
 use Rattle.player_text.specs.declared.texts.Start.{Start}
 use Rattle.variable_places.specs.Places.{has_byte}
-use Rattle.variable_places.proofs.Laws.{first_is_first}
+use Rattle.variable_places.proofs.Laws.{uncleared_are_first}
 use Rattle.init_code.specs.InitBlock.{IsOutOf}
-use Rattle.frame_code.specs.InitBlock.{BeginsSubtunes, ReadsOffTimer, ClearsVariables, BeginsSubtune}
+use Rattle.player_memory.specs.Holds.{order_label}
+use Rattle.frame_code.specs.InitBlock.{BeginsSubtunes, ReadsOffTimer, ClearsVariables, HaveOrders, BeginsSubtune}
 use Rattle.kept_lines.specs.Starts.{start_of}
 use Rattle.frame_code.proofs.Laws.{beginnings_start, lists_at}
-use Rattle.player_code.specs.CodeLines.{init_entrance}
+use Rattle.player_code.specs.CodeLines.{init_entrance, cleared_of}
 use Rattle.player_code.specs.Plans.{Plan, plan_layout, its_init, play_listed, init_listed}
 use Rattle.player_code.proofs.Laws.{entrances_are_in_one_listing, labels_stand_in_place, size_is}
 use Rattle.player_calls.specs.WideLayouts.{spare_from, is_spare, wide_address, wide_layout, with_zeros}
@@ -64,9 +66,13 @@ init_desk plan machine number = entrance_desk (init_listed plan) machine number
 abbrev pub init_ran : Plan → Machine → ℕ → Ran
 init_ran plan machine number = entrance_ran (plan_layout plan) (its_init plan) (init_desk plan machine number)
 
-init_is : (plan : Plan) → BeginsSubtunes (its_init plan) plan.start (length plan.variables)
+-- how many bytes it clears
+abbrev count_of : Plan → ℕ
+count_of plan = cleared_of (length plan.variables)
+
+init_is : (plan : Plan) → BeginsSubtunes (its_init plan) plan.start (count_of plan)
 unfolding init_entrance
-init_is plan = record { first = refl; voice = refl; stored = refl }
+init_is plan = record { first = refl; voice = refl }
 
 off_timer : {packed : PackedSong} {song : Song} {o : Options} {bytes : List ℕ} (plan : Plan) →
     IsPlayer plan packed song o bytes → (which : Bool) → ReadsOffTimer (wide_layout plan which)
@@ -93,29 +99,42 @@ list_own plan p which place is =
 
 wide_first : {packed : PackedSong} {song : Song} {o : Options} {bytes : List ℕ} (plan : Plan) →
     IsPlayer plan packed song o bytes → (which : Bool) →
-    (wide_layout plan which).address FIRST_VARIABLE ≡ plan.origin + 6
+    (wide_layout plan which).address FIRST_CLEARED ≡ plan.origin + 6 + FIRST_CLEARED
 wide_first plan p which =
-    wide_at plan which FIRST_VARIABLE (λ few. (first_is_first plan.holds).0) ∙ first_at plan p
+    wide_at plan which FIRST_CLEARED (λ few. (uncleared_are_first plan.holds FIRST_CLEARED (omega arith)).0)
+    ∙ first_at plan p
 
--- a variable that has a byte is cleared, and one that has none is 0
+-- a variable in front of it stands at the place of its number
+wide_front : {packed : PackedSong} {song : Song} {o : Options} {bytes : List ℕ} (plan : Plan) →
+    IsPlayer plan packed song o bytes → (which : Bool) (label : ℕ) → label < FIRST_CLEARED →
+    wide_address plan which label ≡ plan.origin + 6 + label
+wide_front plan p which label less =
+    let first = p.first label (omega (arith, less)) in
+    let at = (labels_stand_in_place plan p.is).variables label (omega (arith, less)) in
+    wide_at plan which label (λ few. (uncleared_are_first plan.holds label (omega (arith, less))).0)
+    ∙ omega (arith, at, first)
+
+-- each other one that has a byte is cleared, and one that has none is 0
 variable_clears : {packed : PackedSong} {song : Song} {o : Options} {bytes : List ℕ} (plan : Plan) →
-    IsPlayer plan packed song o bytes → (which : Bool) (at : ℕ → ℕ) (label : ℕ) → label < VARIABLES →
-    ((plan.origin + 6 ≤ wide_address plan which label)
-    × (wide_address plan which label < plan.origin + 6 + length plan.variables))
-    ⊎ (IsOutOf (plan.origin + 6) (length plan.variables) (wide_address plan which label)
+    IsPlayer plan packed song o bytes → (which : Bool) (at : ℕ → ℕ) (label : ℕ) → FIRST_CLEARED ≤ label →
+    label < VARIABLES →
+    ((plan.origin + 6 + FIRST_CLEARED ≤ wide_address plan which label)
+    × (wide_address plan which label < plan.origin + 6 + FIRST_CLEARED + count_of plan))
+    ⊎ (IsOutOf (plan.origin + 6 + FIRST_CLEARED) (count_of plan) (wide_address plan which label)
     × (with_zeros which at (wide_address plan which label) ≡ 0))
-variable_clears plan p which at label few = by_case (has_byte plan.holds label) refl
+variable_clears plan p which at label from few = by_case (has_byte plan.holds label) refl
   where
     by_case : (z : Bool) → has_byte plan.holds label ≡ z →
-        ((plan.origin + 6 ≤ wide_address plan which label)
-        × (wide_address plan which label < plan.origin + 6 + length plan.variables))
-        ⊎ (IsOutOf (plan.origin + 6) (length plan.variables) (wide_address plan which label)
+        ((plan.origin + 6 + FIRST_CLEARED ≤ wide_address plan which label)
+        × (wide_address plan which label < plan.origin + 6 + FIRST_CLEARED + count_of plan))
+        ⊎ (IsOutOf (plan.origin + 6 + FIRST_CLEARED) (count_of plan) (wide_address plan which label)
         × (with_zeros which at (wide_address plan which label) ≡ 0))
     by_case true has =
         let is = wide_at plan which label (λ less. has) in
         let at = (labels_stand_in_place plan p.is).variables label few in
         let place = p.is.places label few in
-        inl (omega (arith, is, at), omega (arith, is, at, place))
+        let behind = p.behind label from few has in
+        inl (omega (arith, is, at, behind), omega (arith, is, at, place))
     by_case false none =
         let begins = p.begins in
         let is : wide_address plan which label ≡ spare_from which + label = rw (lt-ltb label VARIABLES few, none) refl in
@@ -129,41 +148,47 @@ variable_clears plan p which at label few = by_case (has_byte plan.holds label) 
 
 module _ {packed : PackedSong} {song : Song} {o : Options} {bytes : List ℕ} (plan : Plan)
     (p : IsPlayer plan packed song o bytes) (which : Bool) where
-  -- the wide layout with the first variable's address
-  clears : (at : ℕ → ℕ) → ClearsVariables (wide_layout plan which) packed (length plan.variables) (with_zeros which at)
+  -- the wide layout with the address of the first variable that is cleared
+  clears : (at : ℕ → ℕ) → ClearsVariables (wide_layout plan which) packed (count_of plan) (with_zeros which at)
   clears at =
       let first = wide_first plan p which in
       let n = labels_stand_in_place plan p.is in
       let size = n.size in
       let all = size_is plan in
-      let ends = p.ends in record {
+      let ends = p.ends in
+      let low = p.is.variables_low in
+      let high = p.is.variables_high in record {
         clears = record {
-          some = p.is.variables_low;
-          few = p.is.variables_high;
-          to = omega (arith, first, size, all, ends);
+          some = omega (arith, low);
+          few = omega (arith, high);
+          to = omega (arith, first, size, all, ends, low);
           writes = λ number less.
               ap (λ place. plan.may_write (place + number) || is_spare which (place + number)) first
-              ∙ or_left (plan.may_write (plan.origin + 6 + number)) (is_spare which (plan.origin + 6 + number))
-              (p.writes_variables (plan.origin + 6 + number)
+              ∙ or_left (plan.may_write (plan.origin + 6 + FIRST_CLEARED + number))
+              (is_spare which (plan.origin + 6 + FIRST_CLEARED + number))
+              (p.writes_variables (plan.origin + 6 + FIRST_CLEARED + number)
               (record { from = omega arith; to = omega (arith, less) }));
           low = λ kept row less. out _ (p.slides which kept row less).low;
           high = λ kept row less. out _ (p.slides which kept row less).high;
-          each = λ label few.
+          front = λ label less.
+              (let at = wide_front plan p which label less in inl (omega (arith, at, first, less)));
+          each = λ label from few.
               subst
               (λ base. ((base ≤ wide_address plan which label)
-              × (wide_address plan which label < base + length plan.variables))
-              ⊎ (IsOutOf base (length plan.variables) (wide_address plan which label)
+              × (wide_address plan which label < base + count_of plan))
+              ⊎ (IsOutOf base (count_of plan) (wide_address plan which label)
               × (with_zeros which at (wide_address plan which label) ≡ 0))) (sym first)
-              (variable_clears plan p which at label few);
+              (variable_clears plan p which at label from few);
         };
         lists = λ list number is has. out _ (p.inside which list number is has);
       }
     where
       out : (place : ℕ) → IsOfLists plan place →
-          IsOutOf ((wide_layout plan which).address FIRST_VARIABLE) (length plan.variables) place
+          IsOutOf ((wide_layout plan which).address FIRST_CLEARED) (count_of plan) place
       out place is =
           let first = wide_first plan p which in
-          let behind = list_behind plan p place is in inr (omega (arith, first, behind))
+          let low = p.is.variables_low in
+          let behind = list_behind plan p place is in inr (omega (arith, first, behind, low))
 
   -- the lists stand in another memory with the same bytes of theirs
   lists_stand : (one two : ℕ → ℕ) → ((place : ℕ) → IsOfLists plan place → two place ≡ one place) →
@@ -174,6 +199,18 @@ module _ {packed : PackedSong} {song : Song} {o : Options} {bytes : List ℕ} (p
       (λ kept row few.
       let slides = p.slides which kept row few in
       record { low = same _ slides.low; high = same _ slides.high })
+
+-- ---- one subtune alone
+
+-- where no lines for several subtunes are kept there is one at most
+few_subtunes : {packed : PackedSong} {song : Song} {o : Options} {bytes : List ℕ} (plan : Plan) →
+    IsPlayer plan packed song o bytes → plan.holds SUBTUNES ≡ false → length packed.subtunes ≤ 1
+few_subtunes {packed = packed} {song = song} plan p off = elim (cases_lt 1 (length packed.subtunes)) [
+  | inl several ↦
+      let has = (p.stands.facts.each Subtunes).1 (subst (λ n. 1 < n) p.stands.subtunes several) in
+      absurd (both_ways (plan.holds SUBTUNES) off (p.facts Subtunes has))
+  | inr few ↦ few
+]
 
 -- ---- an init
 
@@ -189,7 +226,7 @@ pub record Begun (plan : Plan) (packed : PackedSong) (o : Options) (k : ℕ) (be
 module _ {packed : PackedSong} {song : Song} {o : Options} {bytes : List ℕ} (plan : Plan)
     (p : IsPlayer plan packed song o bytes) (k : ℕ) (machine : Machine) (is : IsMachine machine)
     (below : k < length packed.subtunes) (plays : k < length (playable_subtunes (unpacked_song packed)))
-    (x : FrameState) (j : ℕ)
+    (x : FrameState) (j : ℕ) (before : j < length packed.subtunes)
     (holds : (which : Bool) → Spared plan packed j x (slice_index machine.memory) which) where
   wide_init : Bool → Desk
   wide_init which = with_memory (init_desk plan machine k) (with_zeros which (init_desk plan machine k).at)
@@ -209,15 +246,43 @@ module _ {packed : PackedSong} {song : Song} {o : Options} {bytes : List ℕ} (p
       ∙ sym ((holds which).same place own))
       (holds which).holds.lists
 
+  -- a byte of a voice that isn't cleared is as it is held
+  own_is : (which : Bool) (label : ℕ) → label < FIRST_CLEARED →
+      (wide_init which).at (wide_address plan which label) ≡ (holds which).memory (wide_address plan which label)
+  unfolding wide_init
+  own_is which label less =
+      let at = wide_front plan p which label less in
+      let place : ℕ = wide_address plan which label in
+      let from = p.begins in
+      let low = p.is.variables_low in
+      let own = no_spare which place (inr (omega (arith, at, from))) in
+      no_zeros which place own
+      ∙ entry_same plan p machine plan.origin k is.size place
+      (p.reads_variables place (record { from = omega (arith, at); to = omega (arith, at, less, low) }))
+      ∙ sym ((holds which).same place own)
+
+  -- so where there is one subtune alone each voice has its orderlist
+  orders_are : (which : Bool) → HaveOrders (wide_layout plan which) k (wide_init which).at
+  orders_are which off voice few =
+      let one = few_subtunes plan p off in
+      let same : j ≡ k = omega (arith, one, below, before) in
+      let has = ((holds which).holds.voices voice few).song.has in record {
+        low_is = own_is which (ORDER_LOW + 7 * voice) (omega (arith, few)) ∙ has.low_is
+            ∙ ap (λ n. (wide_layout plan which).address (order_label n voice) % 256) same;
+        high_is = own_is which (ORDER_HIGH + 7 * voice) (omega (arith, few)) ∙ has.high_is
+            ∙ ap (λ n. (wide_layout plan which).address (order_label n voice) / 256) same;
+      }
+
   starts : (which : Bool) →
-      BeginsSubtune (wide_layout plan which) packed o k (length plan.variables) (wide_init which)
+      BeginsSubtune (wide_layout plan which) packed o k (count_of plan) (wide_init which)
       (entrance_ran (wide_layout plan which) (its_init plan) (wide_init which))
   unfolding wide_init
   starts which =
       let few = p.subtunes in
-      beginnings_start (wide_layout plan which) packed o k (length plan.variables) (its_init plan) (wide_init which)
-      (subst (λ (s : Start). BeginsSubtunes (its_init plan) s (length plan.variables)) p.start (init_is plan))
-      (p.laid which) (p.timer which) (off_timer plan p which) (clears plan p which (init_desk plan machine k).at)
+      beginnings_start (wide_layout plan which) packed o k (count_of plan) (its_init plan) (wide_init which)
+      (subst (λ (s : Start). BeginsSubtunes (its_init plan) s (count_of plan)) p.start (init_is plan))
+      (p.laid which) p.alone (p.timer which) (off_timer plan p which) (clears plan p which (init_desk plan machine k).at)
+      (orders_are which)
       (record {
         a = refl;
         stored = below;

@@ -174,7 +174,7 @@ unfolding spot_after
 init_stands_on plan p calls k machine is few stand r = record {
   below = few;
   ready = init_ready plan p k machine stand.ready.play_code stand.ready.init_code
-      (init_begins plan p k machine is few (plays_at plan p k few) _ _ stand.ready.holds) r;
+      (init_begins plan p k machine is few (plays_at plan p k few) _ _ stand.below stand.ready.holds) r;
 }
 
 -- the image as it is loaded
@@ -206,7 +206,7 @@ stand_after {packed = packed} {o = o} plan p (Init k ∷ earlier) last led =
     (stand_after plan p earlier led.before led.stood) in
     let few = subtune_few plan p k led.made.0 in
     let r = init_returns plan p k machine led.is stand.ready.init_code
-    (init_begins plan p k machine led.is few (plays_at plan p k few) _ _ stand.ready.holds) in
+    (init_begins plan p k machine led.is few (plays_at plan p k few) _ _ stand.below stand.ready.holds) in
     let here : Called machine plan.origin k led.steps last =
     subst (λ n. Called machine plan.origin n led.steps last) led.made.1 led.called in
     subst (Stand plan packed o (Init k ∷ earlier)) (same_after machine plan.origin k _ _ r.after last r.called here)

@@ -24,7 +24,7 @@ use Rattle.scope_calls.proofs.Laws.{entrances_are_isolated, listings_stay}
 use Rattle.player_text.specs.declared.texts.Start.{Start}
 use Rattle.player_text.specs.Texts.{filter_tree, voice_tree, init_tree}
 use Rattle.player_text.proofs.Laws.{rest_on_few}
-use Rattle.player_code.specs.CodeLines.{play_entrance, init_entrance}
+use Rattle.player_code.specs.CodeLines.{play_entrance, init_entrance, cleared_of}
 use Rattle.player_code.specs.Plans.{Plan, plan_size, code_size, play_listed, init_listed}
 use Rattle.player_code.proofs.Laws.{listed_ends, labels_stand_in_place, size_is}
 use Rattle.player_calls.specs.Players.{IsPlayer}
@@ -136,15 +136,16 @@ play_known pointer holds =
     both (known filter_tree nothing).reads_known (known voice_tree (either the_x shown)).reads_known rest_on_few.filter
     rest_on_few.voice_by_load
 
-init_known : (pointer : ℕ) (holds : ℕ → Bool) (start : Start) (variables : ℕ) →
-    are_known (init_entrance pointer holds start variables) ≡ true
+init_known : (pointer : ℕ) (holds : ℕ → Bool) (start : Start) (cleared : ℕ) →
+    are_known (init_entrance pointer holds start cleared) ≡ true
 unfolding init_entrance
-init_known pointer holds start variables =
-    both (known (init_tree start variables) the_a).reads_known true (rest_on_few.init start variables) refl
+init_known pointer holds start cleared =
+    both (known (init_tree start cleared) the_a).reads_known true (rest_on_few.init start cleared) refl
 
-none_stored : (pointer : ℕ) (holds : ℕ → Bool) (label : ℕ) → (play_entrance pointer holds).stored ≡ Some label → ⊥
+-- plays come with no number
+unnumbered : (pointer : ℕ) (holds : ℕ → Bool) → (play_entrance pointer holds).numbered ≡ true → ⊥
 unfolding play_entrance
-none_stored pointer holds label e = absurd (cc)
+unnumbered pointer holds e = absurd (cc)
 
 -- ---- plays
 
@@ -161,7 +162,7 @@ play_pair plan p one two number other same done done' a b =
             at = λ place may. same place (read_from plan p place may) (read_low plan p place may);
             off_stack = λ place may. off_stack plan p place may;
           })
-          (λ label stored. absurd (none_stored plan.pointer plan.holds label stored)) done done' a b;
+          (λ numbered. absurd (unnumbered plan.pointer plan.holds numbered)) done done' a b;
       one_code = λ place code.
           listings_stay (play_listed plan) one number well a place (in_listing place code) (play_apart plan p place code);
       two_code = λ place code.
@@ -185,12 +186,12 @@ init_pair : {packed : PackedSong} {song : Song} {o : Options} {bytes : List ℕ}
 init_pair plan p one two k same done done' a b =
     let well = (well_entered plan p).init in record {
       alike = entrances_are_isolated (init_listed plan) one two k k well
-          (init_known plan.pointer plan.holds plan.start (length plan.variables))
+          (init_known plan.pointer plan.holds plan.start (cleared_of (length plan.variables)))
           (record {
             at = λ place may. same place (read_from plan p place may) (read_low plan p place may);
             off_stack = λ place may. off_stack plan p place may;
           })
-          (λ label stored. refl) done done' a b;
+          (λ numbered. refl) done done' a b;
       one_code = λ place code.
           listings_stay (init_listed plan) one k well a place (in_listing place code) (init_apart plan p place code);
       two_code = λ place code.
@@ -242,7 +243,7 @@ players_are_isolated plan packed song o bytes p = record { alike = by_call } whe
       Stand plan packed o earlier machine → (meant (init_listed plan) machine k).outcome ≡ Done
   init_done earlier k machine is few stand =
       ap (λ (r : Ran). r.outcome) (init_meant plan p machine k)
-      ∙ (init_begins plan p k machine is few (plays_at plan p k few) _ _ stand.ready.holds).ends
+      ∙ (init_begins plan p k machine is few (plays_at plan p k few) _ _ stand.below stand.ready.holds).ends
 
   by_call : (earlier : List ImageCall) (call : ImageCall) (before one two : Machine) (number other : ℕ) →
       LeadTo bytes plan.origin song earlier before → since_init (call ∷ earlier) ≢ None →
@@ -281,9 +282,9 @@ players_are_isolated plan packed song o bytes p = record { alike = by_call } whe
       let second = stand_moved plan p earlier before two agrees' stand in
       let few = subtune_few plan p k made.0 in
       let a = init_returns plan p k one is first.ready.init_code
-      (init_begins plan p k one is few (plays_at plan p k few) _ _ first.ready.holds) in
+      (init_begins plan p k one is few (plays_at plan p k few) _ _ first.below first.ready.holds) in
       let b = init_returns plan p k two is' second.ready.init_code
-      (init_begins plan p k two is' few (plays_at plan p k few) _ _ second.ready.holds) in
+      (init_begins plan p k two is' few (plays_at plan p k few) _ _ second.below second.ready.holds) in
       let same = both_same plan p before one two agrees agrees' in
       let pair = init_pair plan p one two k same (init_done earlier k one is few first)
       (init_done earlier k two is' few second) a b in

@@ -1,7 +1,7 @@
 -- Where the calls of a player may write, and that their code stands apart from it.
 use Rattle.std.proofs.Common.{◌≡◌, ◌≢◌, ℕ, ◌+◌, ◌%◌, ◌<◌, ◌≤◌, ◌⊎◌, ◌||◌}
 use Rattle.std.proofs.Common.{true, nat_eq}
-use Rattle.std.proofs.Common.{List, length, inl, inr, sym, ap, ◌∙◌, subst, arith}
+use Rattle.std.proofs.Common.{List, length, inl, inr, sym, ◌∙◌, subst, arith}
 use Rattle.std.proofs.lemmas.Bool.{or_cases, eqb-true, ltb-true}
 use Rattle.song_model.specs.declared.songs.Song.{Song}
 use Rattle.play_model.specs.declared.options.Options.{Options}
@@ -10,10 +10,10 @@ use Rattle.cpu6502.specs.declared.memory.TheConstants.{MEMORY_SIZE}
 use Rattle.faithful.specs.Confined.{IsOwnPlace}
 use Rattle.scopes.specs.Desk.{Layout}
 use Rattle.scope_lines.specs.Lowered.{writes_at}
-use Rattle.scope_calls.specs.Listed.{layout_at, IsCode, MayStore, AsBlock, AsNumber, AsCall}
+use Rattle.scope_calls.specs.Listed.{IsCode, MayStore, AsBlock, AsCall}
 use Rattle.scope_calls.specs.EntranceLaws.{IsApart}
-use Rattle.player_memory.specs.declared.labels.TheConstants.{FIRST_VARIABLE}
-use Rattle.player_code.specs.CodeLines.{play_entrance, init_entrance}
+use Rattle.player_memory.specs.declared.labels.TheConstants.{FIRST_CLEARED}
+use Rattle.player_code.specs.CodeLines.{init_entrance}
 use Rattle.player_code.specs.Plans.{Plan, plan_size, code_size, plan_layout, play_listed, init_listed}
 use Rattle.player_code.specs.CodeLaws.{WritesApart, AreWellEntered}
 use Rattle.player_code.proofs.Laws.{entrances_are_in_one_listing, labels_stand_in_place, code_is_well_entered, size_is}
@@ -46,7 +46,6 @@ record Numbers (plan : Plan) : Type 0 where
   ends : plan.origin + plan_size plan ≤ 0xD000
   pointer : plan.pointer ≤ 254
   code : 6 + length plan.variables ≤ code_size plan
-  some : 1 ≤ length plan.variables
   all : code_size plan ≤ plan_size plan
 
 numbers : {packed : PackedSong} {song : Song} {o : Options} {bytes : List ℕ} (plan : Plan) →
@@ -58,7 +57,6 @@ numbers plan p =
       ends = p.ends;
       pointer = p.is.pointer_high;
       code = omega (arith, size);
-      some = p.is.variables_low;
       all = omega (arith, all);
     }
 
@@ -158,33 +156,20 @@ stack_own : {size address zero_page : ℕ} {o : Options} (sp place : ℕ) →
 stack_own sp place (inl is) = IsOwnPlace.on_stack 0 (omega arith) (omega (arith, is))
 stack_own sp place (inr is) = IsOwnPlace.on_stack 1 (omega arith) (omega (arith, is))
 
--- the first variable has the first byte behind the jumps
+-- the first variable that is cleared is behind the jumps and those that aren't
 pub first_at : {packed : PackedSong} {song : Song} {o : Options} {bytes : List ℕ} (plan : Plan) →
-    IsPlayer plan packed song o bytes → (plan_layout plan).address FIRST_VARIABLE ≡ plan.origin + 6
+    IsPlayer plan packed song o bytes → (plan_layout plan).address FIRST_CLEARED ≡ plan.origin + 6 + FIRST_CLEARED
 first_at plan p =
-    let first = p.first in
-    let at = (labels_stand_in_place plan p.is).variables FIRST_VARIABLE (omega arith) in omega (arith, at, first)
-
-in_image_at : {packed : PackedSong} {song : Song} {o : Options} {bytes : List ℕ} (plan : Plan) →
-    IsPlayer plan packed song o bytes → (sp place : ℕ) → place ≡ plan.origin + 6 →
-    IsOwnPlace (length bytes) plan.origin plan.pointer o sp place
-in_image_at plan p sp place is =
-    let n = numbers plan p in
-    let size = p.size in
-    let code = n.code in
-    let all = n.all in
-    let some = n.some in
-    IsOwnPlace.in_image (omega (arith, is)) (omega (arith, is, size, code, all, some))
+    let first = p.first FIRST_CLEARED (omega arith) in
+    let at = (labels_stand_in_place plan p.is).variables FIRST_CLEARED (omega arith) in omega (arith, at, first)
 
 pub play_stores : {packed : PackedSong} {song : Song} {o : Options} {bytes : List ℕ} (plan : Plan) →
     IsPlayer plan packed song o bytes → (sp place : ℕ) → MayStore (play_listed plan) sp place →
     IsOwnPlace (length bytes) plan.origin plan.pointer o ((sp + 254) % 256) place
-unfolding play_entrance
 play_stores plan p sp place (AsBlock may) =
     block_own plan p _ place (numbers plan p)
     (written plan p place
     (subst (λ (l : Layout). writes_at l place ≡ true) (entrances_are_in_one_listing plan p.is).play_layout may))
-play_stores plan p sp place (AsNumber label stored is) = absurd (cc)
 play_stores plan p sp place (AsCall block voice is) = stack_own sp place is
 
 pub init_stores : {packed : PackedSong} {song : Song} {o : Options} {bytes : List ℕ} (plan : Plan) →
@@ -195,12 +180,6 @@ init_stores plan p sp place (AsBlock may) =
     block_own plan p _ place (numbers plan p)
     (written plan p place
     (subst (λ (l : Layout). writes_at l place ≡ true) (entrances_are_in_one_listing plan p.is).init_layout may))
-init_stores plan p sp place (AsNumber label stored is) =
-    let same : FIRST_VARIABLE ≡ label = cc in
-    in_image_at plan p _ place
-    (sym is ∙ (ap (layout_at (init_listed plan)).address (sym same)
-    ∙ (ap (λ (l : Layout). l.address FIRST_VARIABLE) (entrances_are_in_one_listing plan p.is).init_layout
-    ∙ first_at plan p)))
 init_stores plan p sp place (AsCall block voice is) = absurd (cc)
 
 -- ---- code
@@ -228,37 +207,17 @@ pub unwritten : {packed : PackedSong} {song : Song} {o : Options} {bytes : List 
     writes_at (plan_layout plan) place ≢ true
 unwritten plan p place code w = code_unwritten plan place (numbers plan p) code (written plan p place w)
 
-not_first : (plan : Plan) (place : ℕ) → Numbers plan → IsCodePlace plan place → plan.origin + 6 ≢ place
-not_first plan place n code e =
-    let some = n.some in
-    elim code.is [
-      | inl jump ↦ omega (arith, jump, e)
-      | inr code ↦ omega (arith, code, e, some)
-    ]
-
 pub play_apart : {packed : PackedSong} {song : Song} {o : Options} {bytes : List ℕ} (plan : Plan) →
     IsPlayer plan packed song o bytes → (place : ℕ) → IsCodePlace plan place → IsApart (play_listed plan) place
-unfolding play_entrance
-play_apart plan p place code = record {
-  blocks = λ w.
-      unwritten plan p place code
-      (subst (λ (l : Layout). writes_at l place ≡ true) (entrances_are_in_one_listing plan p.is).play_layout w);
-  stored = λ label e. absurd (cc);
-}
+play_apart plan p place code w =
+    unwritten plan p place code
+    (subst (λ (l : Layout). writes_at l place ≡ true) (entrances_are_in_one_listing plan p.is).play_layout w)
 
 pub init_apart : {packed : PackedSong} {song : Song} {o : Options} {bytes : List ℕ} (plan : Plan) →
     IsPlayer plan packed song o bytes → (place : ℕ) → IsCodePlace plan place → IsApart (init_listed plan) place
-unfolding init_entrance
-init_apart plan p place code = record {
-  blocks = λ w.
-      unwritten plan p place code
-      (subst (λ (l : Layout). writes_at l place ≡ true) (entrances_are_in_one_listing plan p.is).init_layout w);
-  stored = λ label e is. (let same : FIRST_VARIABLE ≡ label = cc in
-      not_first plan place (numbers plan p) code
-      (sym (first_at plan p)
-      ∙ (sym (ap (λ (l : Layout). l.address FIRST_VARIABLE) (entrances_are_in_one_listing plan p.is).init_layout)
-      ∙ (ap (layout_at (init_listed plan)).address same ∙ is))));
-}
+init_apart plan p place code w =
+    unwritten plan p place code
+    (subst (λ (l : Layout). writes_at l place ≡ true) (entrances_are_in_one_listing plan p.is).init_layout w)
 
 -- the places of each entrance's code are such
 pub play_code : {packed : PackedSong} {song : Song} {o : Options} {bytes : List ℕ} (plan : Plan) →

@@ -113,7 +113,7 @@ play_ran plan machine number = entrance_ran (plan_layout plan) (its_play plan) (
 
 play_is : (plan : Plan) → PlaysFrames (its_play plan)
 unfolding play_entrance
-play_is plan = record { first = refl; voice = refl; stored = refl }
+play_is plan = record { first = refl; voice = refl }
 
 -- the frame that the entrance plays: it ends, holds the state behind it, and leaves its registers, and all that is
 -- behind those

@@ -16,7 +16,7 @@ use Rattle.scope_calls.specs.EntranceLaws.{Returns, entrance_weight}
 use Rattle.scope_calls.proofs.Laws.{run_stays, calls_are_short}
 use Rattle.player_text.specs.declared.texts.Start.{Start}
 use Rattle.player_text.proofs.Laws.{are_measured}
-use Rattle.player_code.specs.CodeLines.{play_entrance, init_entrance}
+use Rattle.player_code.specs.CodeLines.{play_entrance, init_entrance, cleared_of}
 use Rattle.player_code.specs.Plans.{Plan, play_listed, init_listed}
 use Rattle.player_calls.specs.Players.{IsPlayer}
 use Rattle.player_calls.specs.CallLaws.{PlayersPlay}
@@ -33,10 +33,10 @@ unfolding play_entrance
 play_weight pointer holds =
     let filter = are_measured.filter.weighs in let voice = are_measured.voice.weighs in omega (arith, filter, voice)
 
-init_weight : (pointer : ℕ) (holds : ℕ → Bool) (start : Start) (variables : ℕ) →
-    entrance_weight (init_entrance pointer holds start variables) ≤ 60000
+init_weight : (pointer : ℕ) (holds : ℕ → Bool) (start : Start) (cleared : ℕ) →
+    entrance_weight (init_entrance pointer holds start cleared) ≤ 60000
 unfolding init_entrance
-init_weight pointer holds start variables = (let init = (are_measured.init start variables).weighs in omega (arith, init))
+init_weight pointer holds start cleared = (let init = (are_measured.init start cleared).weighs in omega (arith, init))
 
 -- ---- a play
 
@@ -95,10 +95,10 @@ init_serves : {packed : PackedSong} {song : Song} {o : Options} {bytes : List �
     Serves bytes plan.origin plan.pointer song o earlier (Init k) machine k
 unfolding spot_after
 init_serves {song = song} {o = o} plan p earlier k machine is below stand =
-    let begun = init_begins plan p k machine is below (plays_at plan p k below) _ _ stand.ready.holds in
+    let begun = init_begins plan p k machine is below (plays_at plan p k below) _ _ stand.below stand.ready.holds in
     let r = init_returns plan p k machine is stand.ready.init_code begun in
     let most = calls_are_short (init_listed plan) machine k r in
-    let few = init_weight plan.pointer plan.holds plan.start (length plan.variables) in
+    let few = init_weight plan.pointer plan.holds plan.start (cleared_of (length plan.variables)) in
     record {
       steps = r.steps;
       within = omega (arith, most, few);

@@ -1,7 +1,7 @@
 -- An entrance of a player does what it does in two layouts in which each variable has a byte: their spare bytes are
 -- neither read nor written.
 use Rattle.std.proofs.Common.{◌≡◌, ◌≢◌, ℕ, ◌+◌, ◌<◌, ◌≤◌, ◌⊎◌, ◌||◌, Bool, true, false, nat_eq, nat_le, nat_lt}
-use Rattle.std.proofs.Common.{List, length, inl, inr, refl, sym, ap, ◌∙◌, arith}
+use Rattle.std.proofs.Common.{List, length, inl, inr, refl, ap, ◌∙◌, arith}
 use Rattle.std.proofs.lemmas.Bool.{or_cases, and_parts, both_ways, eqb-true, leb-true, ltb-true, le-leb, lt-ltb}
 use Rattle.song_model.specs.declared.songs.Song.{Song}
 use Rattle.play_model.specs.declared.options.Options.{Options}
@@ -13,12 +13,12 @@ use Rattle.scope_calls.specs.Meaning.{entrance_ran}
 use Rattle.narrow_runs.specs.Named.{names, entrance_names}
 use Rattle.narrow_runs.specs.Narrow.{AgreesOn, IsNarrow, IsSameBut, CameTo}
 use Rattle.narrow_runs.proofs.Laws.{entrances_are_narrow}
-use Rattle.player_memory.specs.declared.labels.TheConstants.{VARIABLES, REST}
+use Rattle.player_memory.specs.declared.labels.TheConstants.{VARIABLES}
 use Rattle.player_text.specs.Texts.{filter_tree, voice_tree, init_tree}
 use Rattle.variable_places.specs.Places.{has_byte}
-use Rattle.variable_places.proofs.Laws.{named_have_bytes, first_is_first}
+use Rattle.variable_places.proofs.Laws.{named_have_bytes}
 use Rattle.player_code.specs.declared.labels.TheConstants.{INIT_CODE, PLAY_CODE}
-use Rattle.player_code.specs.CodeLines.{play_entrance, init_entrance}
+use Rattle.player_code.specs.CodeLines.{play_entrance, init_entrance, cleared_of}
 use Rattle.player_code.specs.Plans.{Plan, plan_layout, its_play, its_init}
 use Rattle.player_calls.specs.WideLayouts.{spare_from, is_spare, wide_address, wide_layout}
 use Rattle.player_calls.specs.Players.{IsPlayer, MayBeWritten, AtVariable, InLists, AtRegister, AtTimer}
@@ -156,7 +156,7 @@ unfolding play_entrance
 play_names plan label named few =
     let law = named_have_bytes plan.holds plan.start 0 label in
     elim (or_cases (nat_eq PLAY_CODE label)
-    (false || (names plan.holds filter_tree label || names plan.holds voice_tree label)) named) [
+    (names plan.holds filter_tree label || names plan.holds voice_tree label) named) [
       | inl code ↦ (let is = eqb-true PLAY_CODE label code in absurd (omega (arith, is, few)))
       | inr blocks ↦
           elim (or_cases (names plan.holds filter_tree label) (names plan.holds voice_tree label) blocks) [
@@ -168,20 +168,14 @@ play_names plan label named few =
 init_names : (plan : Plan) (label : ℕ) → entrance_names plan.holds (its_init plan) label ≡ true → HasPlace plan label
 unfolding init_entrance
 init_names plan label named few =
-    let law = named_have_bytes plan.holds plan.start (length plan.variables) label in
-    elim (or_cases (nat_eq INIT_CODE label)
-    (nat_eq REST label || (names plan.holds (init_tree plan.start (length plan.variables)) label || false)) named) [
+    let cleared = cleared_of (length plan.variables) in
+    let law = named_have_bytes plan.holds plan.start cleared label in
+    elim (or_cases (nat_eq INIT_CODE label) (names plan.holds (init_tree plan.start cleared) label || false) named) [
       | inl code ↦ (let is = eqb-true INIT_CODE label code in absurd (omega (arith, is, few)))
-      | inr others ↦
-          elim (or_cases (nat_eq REST label)
-          (names plan.holds (init_tree plan.start (length plan.variables)) label || false) others) [
-            | inl first ↦
-                (let is = eqb-true REST label first in ap (has_byte plan.holds) (sym is) ∙ (first_is_first plan.holds).0)
-            | inr block ↦
-                elim (or_cases (names plan.holds (init_tree plan.start (length plan.variables)) label) false block) [
-                  | inl init ↦ law.2 init
-                  | inr never ↦ absurd (both_ways false refl never)
-                ]
+      | inr block ↦
+          elim (or_cases (names plan.holds (init_tree plan.start cleared) label) false block) [
+            | inl init ↦ law.2 init
+            | inr never ↦ absurd (both_ways false refl never)
           ]
     ]
 

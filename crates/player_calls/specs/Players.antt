@@ -10,12 +10,13 @@ use Rattle.packed_form.specs.StandsFor.{StandsFor}
 use Rattle.asm6502.specs.Assembly.{assembled_bytes}
 use Rattle.asm6502.specs.Stretches.{HasBytes}
 use Rattle.player_memory.specs.declared.conditions.TheConstants.{NOTE_DEPENDENT, TIMED}
-use Rattle.player_memory.specs.declared.labels.TheConstants.{FIRST_VARIABLE, SLIDES_LOW, SLIDES_HIGH}
+use Rattle.player_memory.specs.declared.labels.TheConstants.{VARIABLES, FIRST_CLEARED, SLIDES_LOW, SLIDES_HIGH}
 use Rattle.player_memory.specs.FactLines.{KeepsMarked, KeepsMarkedAlone, KeepsShared, HoldsAlone}
 use Rattle.player_memory.specs.Playing.{place_in}
 use Rattle.player_memory.specs.SongLists.{SongList, IsSongList, HasNumber, HasSongLists, list_label, slide_rows}
 use Rattle.player_memory.specs.Holds.{IsPlayerLayout, order_label}
 use Rattle.player_memory.specs.Starting.{Begins}
+use Rattle.variable_places.specs.Places.{has_byte}
 use Rattle.slide_code.specs.SlideBlock.{KeepsCommon}
 use Rattle.voice_code.specs.VoiceBlock.{KeepsOptions}
 use Rattle.init_code.specs.InitBlock.{MaySetTimer}
@@ -58,9 +59,10 @@ HasImage plan at = HasBytes at plan.origin 0 (plan_size plan) (assembled_bytes 0
 -- The bytes are the plan's listing, which stands from $0800 up to $D000. The packed song stands for a song, and has at
 -- most 85 subtunes. The lines are kept of its features and facts and of no other facts, of what they have in common,
 -- and of the options; those of instruments that leave something as it is before a note, only for one that does. The
--- first variable has the first byte. The blocks may read the variables and the lists, and write where they must. The
--- song's lists are among the lists of the listing. In each memory with its bytes they stand, and the variables begin as
--- the first subtune does, those without a byte in the image by their spare zeros.
+-- variables that aren't cleared have the first bytes, and the others stand behind them. The blocks may read the
+-- variables and the lists, and write where they must. The song's lists are among the lists of the listing. In each
+-- memory with its bytes they stand, and the variables begin as the first subtune does, those without a byte in the
+-- image by their spare zeros.
 pub record IsPlayer (plan : Plan) (packed : PackedSong) (song : Song) (o : Options) (bytes : List ℕ) : Type 0 where
   pub is : IsPlan plan
   pub are : bytes ≡ assembled_bytes 0 plan.origin (plan_lines plan)
@@ -81,7 +83,9 @@ pub record IsPlayer (plan : Plan) (packed : PackedSong) (song : Song) (o : Optio
   pub options : (which : Bool) → KeepsOptions (wide_layout plan which) o
   pub timed : plan.holds TIMED ≡ nat_lt 1 o.speed
   pub laid : (which : Bool) → IsPlayerLayout (wide_layout plan which) packed
-  pub first : plan.places FIRST_VARIABLE ≡ 0
+  pub first : (label : ℕ) → label ≤ FIRST_CLEARED → plan.places label ≡ label
+  pub behind : (label : ℕ) → FIRST_CLEARED ≤ label → label < VARIABLES → has_byte plan.holds label ≡ true →
+      FIRST_CLEARED ≤ plan.places label
   pub timer : (which : Bool) → MaySetTimer (wide_layout plan which)
   pub reads_variables : (place : ℕ) → IsVariable plan place → plan.may_read place ≡ true
   pub reads_lists : (place : ℕ) → IsOfLists plan place → plan.may_read place ≡ true

@@ -21,7 +21,7 @@ use Rattle.song_lists.specs.Marks.{marked}
 use Rattle.song_lists.specs.DataLists.{data_bytes, data_marks, order_places, HasLines}
 use Rattle.song_lists.specs.ListLaws.{KeepsCounts}
 use Rattle.song_lists.proofs.Laws.{lines_are_kept, lines_take_size, labels_have_places}
-use Rattle.player_code.specs.CodeLines.{code_lines, play_entrance, init_entrance}
+use Rattle.player_code.specs.CodeLines.{cleared_of, code_lines, play_entrance, init_entrance}
 use Rattle.player_image.specs.Images.{image_holds, image_places, image_count, image_variables, code_bytes, numbered}
 use Rattle.player_image.specs.Images.{first_order, IsListingOf}
 use Rattle.player_image.specs.Systems.{ImagesAreOne}
@@ -160,7 +160,8 @@ with_variables packed o pointer variables =
 
 abbrev init_with : PackedSong → Options → ℕ → List ℕ → Entrance
 init_with packed o pointer variables =
-    init_entrance pointer (image_holds packed o) (start_of o) (length (image_variables packed o variables))
+    init_entrance pointer (image_holds packed o) (start_of o)
+    (cleared_of (length (image_variables packed o variables)))
 
 module _ (packed : PackedSong) (o : Options) (origin pointer : ℕ) (counts : KeepsCounts packed) (one two : List Line)
     (here : IsListingOf packed o origin pointer one) (there : IsListingOf packed o origin pointer two) where
@@ -174,7 +175,7 @@ module _ (packed : PackedSong) (o : Options) (origin pointer : ℕ) (counts : Ke
       code_same (image_places packed o) (image_variables packed o here.variables)
       (image_variables packed o there.variables) (play_entrance pointer (image_holds packed o))
       (init_with packed o pointer here.variables) (init_with packed o pointer there.variables) its_count
-      (ap (λ n. entrance_size (init_entrance pointer (image_holds packed o) (start_of o) n)) its_count)
+      (ap (λ n. entrance_size (init_entrance pointer (image_holds packed o) (start_of o) (cleared_of n))) its_count)
 
   its_lists : HasLines (image_holds packed o NOTE_DEPENDENT) packed (origin + code_bytes packed o pointer here.variables)
       there.lists
@@ -199,7 +200,7 @@ module _ (packed : PackedSong) (o : Options) (origin pointer : ℕ) (counts : Ke
       Begins numbered (start_of o).tempo (start_of o).funk
       (λ voice. origin + n + slice_index (order_places (image_holds packed o NOTE_DEPENDENT) packed) voice)
       (slice_index there.variables))
-      (sym its_code.size) there.first)
+      (sym its_code.size) there.first) here.unplayed there.unplayed
 
   same_bytes : assembled_bytes 0 origin one ≡ assembled_bytes 0 origin two
   same_bytes =

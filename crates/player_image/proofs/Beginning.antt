@@ -11,7 +11,7 @@ use Rattle.player_memory.specs.declared.variables.Kept.{Kept}
 use Rattle.player_memory.specs.declared.variables.Kept.TheVariants.{Always, Where, Else}
 use Rattle.player_memory.specs.declared.variables.VoiceByte.{VoiceByte}
 use Rattle.player_memory.specs.declared.variables.CommonByte.{CommonByte}
-use Rattle.player_memory.specs.declared.variables.TheConstants.{VOICE_BYTES, COMMON_BYTES, SONG_BYTES}
+use Rattle.player_memory.specs.declared.variables.TheConstants.{VOICE_BYTES, COMMON_BYTES, FIRST_SONG_BYTES}
 use Rattle.player_memory.specs.Labels.{is_own}
 use Rattle.player_memory.specs.Variables.{stands, voice_byte, common_byte}
 use Rattle.player_memory.specs.Playing.{own_at, shared_at}
@@ -101,7 +101,7 @@ voices_are_there : (tempo : ℕ) → voices_there VOICE_BYTES tempo ≡ true
 unfolding voices_there asks voice_rows shared_rows
 voices_are_there tempo = refl
 
-songs_are_there : (address : ℕ) → songs_there SONG_BYTES address ≡ true
+songs_are_there : (address : ℕ) → songs_there FIRST_SONG_BYTES address ≡ true
 unfolding songs_there asks voice_rows shared_rows
 songs_are_there address = refl
 
@@ -183,7 +183,7 @@ module _ (layout : Layout) (variables at : ℕ → ℕ)
     voices = λ voice few.
         let mine = begins.voices voice few in record {
           state = voice_begins voice few VOICE_BYTES tempo (voices_are_there tempo) mine.state;
-          song = song_begins voice few SONG_BYTES (address voice) (songs_are_there (address voice)) mine.song;
+          song = song_begins voice few FIRST_SONG_BYTES (address voice) (songs_are_there (address voice)) mine.song;
         };
     common = common_begins COMMON_BYTES (common_with tempo funk) (commons_are_there tempo funk) begins.common;
     handed = (

@@ -5,15 +5,16 @@ use Rattle.std.proofs.lemmas.Bool.{or_cases, and_parts, cases_lt, leb-true, eqb-
 use Rattle.std.proofs.lemmas.List.{ext_get_or}
 use Rattle.play_model.specs.State.{Common}
 use Rattle.player_memory.specs.declared.labels.TheConstants.{VARIABLES, LENT, KEPT_COMMAND, KEPT_PARAM}
+use Rattle.player_memory.specs.declared.labels.TheConstants.{PATTERN_LOW, PATTERN_HIGH}
 use Rattle.player_memory.specs.declared.variables.Kept.{Kept}
 use Rattle.player_memory.specs.declared.variables.Kept.TheVariants.{Always, Where, Else}
 use Rattle.player_memory.specs.declared.variables.VoiceByte.{VoiceByte}
 use Rattle.player_memory.specs.declared.variables.CommonByte.{CommonByte}
-use Rattle.player_memory.specs.declared.variables.TheConstants.{VOICE_BYTES, COMMON_BYTES, SONG_BYTES}
+use Rattle.player_memory.specs.declared.variables.TheConstants.{VOICE_BYTES, COMMON_BYTES, FIRST_SONG_BYTES}
 use Rattle.player_memory.specs.Variables.{stands}
 use Rattle.player_memory.specs.Playing.{own_at, AreSame}
 use Rattle.player_memory.specs.Starting.{common_with, VoiceRowsBegin, SongRowsBegin, CommonRowsBegin, AreZero, Begins}
-use Rattle.player_image.specs.Images.{numbered}
+use Rattle.player_image.specs.Images.{numbered, HaveNoPattern}
 
 -- ---- what begins by the same rows is the same
 
@@ -68,8 +69,13 @@ among label (other ∷ others) one two is same =
       | inr later ↦ among label others one two later same.1
     ]
 
+-- the bytes of its pattern's place
+abbrev unplayed : List ℕ
+unplayed = PATTERN_LOW ∷ PATTERN_HIGH ∷ []
+
 abbrev is_in_voice : ℕ → Bool
-is_in_voice label = is_among label (labels_of VOICE_BYTES) || is_among label SONG_BYTES
+is_in_voice label =
+    is_among label (labels_of VOICE_BYTES) || (is_among label FIRST_SONG_BYTES || is_among label unplayed)
 
 abbrev is_of_voice : ℕ → ℕ → Bool
 is_of_voice voice label = nat_le (7 * voice) label && is_in_voice (label - 7 * voice)
@@ -99,7 +105,7 @@ each_below (suc n) label test all below =
 -- ---- all variables
 
 module _ (tempo funk : ℕ) (address : ℕ → ℕ) (one two : ℕ → ℕ) (here : Begins numbered tempo funk address one)
-    (there : Begins numbered tempo funk address two) where
+    (there : Begins numbered tempo funk address two) (no_pattern : HaveNoPattern one) (none : HaveNoPattern two) where
   of_voice : (voice label : ℕ) → voice < 3 → is_of_voice voice label ≡ true → one label ≡ two label
   of_voice voice label few is =
       let both = and_parts (nat_le (7 * voice) label) (is_in_voice (label - 7 * voice)) is in
@@ -109,15 +115,22 @@ module _ (tempo funk : ℕ) (address : ℕ → ℕ) (one two : ℕ → ℕ) (her
       let back : label - 7 * voice + 7 * voice ≡ label = omega (arith, from) in
       subst (λ l. one l ≡ two l) back
       (elim (or_cases (is_among (label - 7 * voice) (labels_of VOICE_BYTES))
-      (is_among (label - 7 * voice) SONG_BYTES) both.1) [
+      (is_among (label - 7 * voice) FIRST_SONG_BYTES || is_among (label - 7 * voice) unplayed) both.1) [
         | inl state ↦
             among (label - 7 * voice) (labels_of VOICE_BYTES) (own_at numbered one voice)
             (own_at numbered two voice) state
             (voice_same VOICE_BYTES tempo (own_at numbered one voice) (own_at numbered two voice) mine.state other.state)
-        | inr song ↦
-            among (label - 7 * voice) SONG_BYTES (own_at numbered one voice) (own_at numbered two voice) song
-            (song_same SONG_BYTES (address voice) (own_at numbered one voice) (own_at numbered two voice) mine.song
-            other.song)
+        | inr in_song ↦
+            elim (or_cases (is_among (label - 7 * voice) FIRST_SONG_BYTES) (is_among (label - 7 * voice) unplayed) in_song) [
+              | inl song ↦
+                  among (label - 7 * voice) FIRST_SONG_BYTES (own_at numbered one voice) (own_at numbered two voice) song
+                  (song_same FIRST_SONG_BYTES (address voice) (own_at numbered one voice) (own_at numbered two voice)
+                  mine.song other.song)
+              | inr pattern ↦
+                  among (label - 7 * voice) unplayed (own_at numbered one voice) (own_at numbered two voice) pattern
+                  (zeros_same unplayed (own_at numbered one voice) (own_at numbered two voice) (no_pattern voice few)
+                  (none voice few))
+            ]
       ])
 
   of_all : (label : ℕ) → is_of_all label ≡ true → one label ≡ two label
@@ -150,8 +163,10 @@ module _ (tempo funk : ℕ) (address : ℕ → ℕ) (one two : ℕ → ℕ) (her
 
 pub variables_are_one : (tempo funk : ℕ) (address : ℕ → ℕ) (one two : List ℕ) → length one ≡ VARIABLES →
     length two ≡ VARIABLES → Begins numbered tempo funk address (slice_index one) →
-    Begins numbered tempo funk address (slice_index two) → one ≡ two
-variables_are_one tempo funk address one two all both here there =
+    Begins numbered tempo funk address (slice_index two) → HaveNoPattern (slice_index one) →
+    HaveNoPattern (slice_index two) → one ≡ two
+variables_are_one tempo funk address one two all both here there no_pattern none =
     ext_get_or 0 one two (all ∙ sym both)
     (λ label below.
-    same_byte tempo funk address (slice_index one) (slice_index two) here there label (omega (arith, below, all)))
+    same_byte tempo funk address (slice_index one) (slice_index two) here there no_pattern none label
+    (omega (arith, below, all)))

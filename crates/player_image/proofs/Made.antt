@@ -15,7 +15,7 @@ use Rattle.kept_lines.specs.Starts.{start_of}
 use Rattle.kept_lines.specs.Asked.{asked_by}
 use Rattle.kept_lines.specs.KeptLines.{kept_set}
 use Rattle.variable_places.specs.Places.{place_of, variable_count}
-use Rattle.variable_places.proofs.Laws.{places_are_within, counts_are_few}
+use Rattle.variable_places.proofs.Laws.{places_are_within, counts_are_few, counts_are_no_fewer}
 use Rattle.song_lists.specs.DataLists.{HasLines, AreFirstOrders, order_places}
 use Rattle.song_lists.specs.ListLaws.{KeepsCounts}
 use Rattle.player_code.specs.CodeLines.{code_lines}
@@ -23,6 +23,7 @@ use Rattle.player_code.specs.CodeLaws.{code_takes}
 use Rattle.player_code.specs.Plans.{IsPlan}
 use Rattle.player_code.proofs.Laws.{code_takes_its_blocks}
 use Rattle.player_image.specs.Images.{image_holds, image_places, image_count, image_variables, code_bytes, placed}
+use Rattle.player_image.specs.Images.{HaveNoPattern}
 use Rattle.player_image.specs.Images.{plan_of, numbered, first_order, IsListingOf}
 use Rattle.player_image.proofs.Lists.{lists_are_data}
 use Rattle.player_image.proofs.Placed.{placed_length, placed_same, codes_same}
@@ -36,7 +37,7 @@ module _ (packed : PackedSong) (o : Options) (origin pointer : ℕ) (speed : IsS
   plan_is variables lists has =
       let count = placed_length (image_places packed o) (image_count packed o) variables in
       let few = counts_are_few (image_holds packed o) in record {
-        variables_low = omega (arith, few.0, count);
+        variables_low = (let least = counts_are_no_fewer (image_holds packed o) in omega (arith, least, count));
         variables_high = omega (arith, few.1, count);
         places = λ label below.
             (let within = places_are_within (image_holds packed o) label below in omega (arith, within, count));
@@ -55,10 +56,10 @@ module _ (packed : PackedSong) (o : Options) (origin pointer : ℕ) (speed : IsS
       count ≡ variable_count (holds_in set) → first ≡ origin + code_takes (holds_in set) start count →
       AreFirstOrders dependent packed first orders →
       Begins numbered (start_of o).tempo (start_of o).funk (λ voice. slice_index orders voice) (slice_index variables) →
-      bytes ≡ placed places count variables → code ≡ code_lines places bytes pointer (holds_in set) start →
+      HaveNoPattern (slice_index variables) → bytes ≡ placed places count variables → code ≡ code_lines places bytes pointer (holds_in set) start →
       HasLines dependent packed first lists → listing ≡ code ++ lists → IsListingOf packed o origin pointer listing
   listing_is variables orders bytes places set first count start dependent code lists listing all sets starts depends
-      stand counted begins are start_is places_are codes has is =
+      stand counted begins are start_is unplayed places_are codes has is =
       record {
         variables = variables;
         lists = lists;
@@ -66,6 +67,7 @@ module _ (packed : PackedSong) (o : Options) (origin pointer : ℕ) (speed : IsS
         has_lines = lines;
         first = addressed numbered (start_of o).tempo (start_of o).funk (λ voice. slice_index orders voice)
             (first_order packed o origin pointer variables) (slice_index variables) place start_is;
+        unplayed = unplayed;
         are = is ∙ ap (λ ls. ls ++ lists) code_is;
       }
     where

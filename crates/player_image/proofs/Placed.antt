@@ -12,7 +12,7 @@ use Rattle.player_memory.specs.declared.labels.TheConstants.{VARIABLES}
 use Rattle.player_text.specs.declared.texts.Start.{Start}
 use Rattle.player_code.specs.declared.labels.TheConstants.{PLAY_CODE}
 use Rattle.player_code.specs.CodeLines.{name, byte_line, names_at, variable_lines, jump_lines, middle_lines, code_lines}
-use Rattle.player_code.specs.CodeLines.{play_entrance, init_entrance}
+use Rattle.player_code.specs.CodeLines.{cleared_of, play_entrance, init_entrance}
 use Rattle.player_image.specs.Images.{byte_of, label_at, placed}
 
 -- there are so many
@@ -115,5 +115,5 @@ module _ (one two : ℕ → ℕ) (same : (label : ℕ) → label < VARIABLES →
       ap (λ variables.
       (jump_lines ++ (variables ++ name PLAY_CODE ∷ []))
       ++ (entrance_lines (play_entrance pointer holds)
-      ++ (middle_lines ++ entrance_lines (init_entrance pointer holds start (length bytes)))))
+      ++ (middle_lines ++ entrance_lines (init_entrance pointer holds start (cleared_of (length bytes))))))
       (lines_same 0 bytes)

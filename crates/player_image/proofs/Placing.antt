@@ -4,9 +4,9 @@ use Rattle.std.proofs.Common.{slice_index, Option, Some, inl, inr, refl, sym, ap
 use Rattle.std.specs.List.{find, range_with_len}
 use Rattle.std.proofs.lemmas.List.FromFn.{get_or-map-range_with_len}
 use Rattle.std.proofs.lemmas.Bool.{eqb-true, both_ways, eq-eqb, cases_lt}
-use Rattle.player_memory.specs.declared.labels.TheConstants.{VARIABLES, REST}
+use Rattle.player_memory.specs.declared.labels.TheConstants.{VARIABLES}
 use Rattle.variable_places.specs.Places.{has_byte, place_of, variable_count}
-use Rattle.variable_places.proofs.Laws.{places_are_within, places_are_apart, first_is_first}
+use Rattle.variable_places.proofs.Laws.{places_are_within, places_are_apart, uncleared_are_first}
 use Rattle.player_image.specs.Images.{byte_of, label_at, placed}
 
 pub placed_at : (places : ℕ → ℕ) (count : ℕ) (variables : List ℕ) (place : ℕ) → place < count →
@@ -69,8 +69,8 @@ module _ (holds : ℕ → Bool) where
           omega (arith, is, lower)
       by_case false none =
           let zero_is : place_of holds other ≡ 0 = no_place holds other none in
-          let first = first_is_first holds in
-          let is = places_are_apart holds REST label (omega arith) few first.0 has (first.1 ∙ sym zero_is ∙ same) in
+          let first = uncleared_are_first holds 0 (omega arith) in
+          let is = places_are_apart holds 0 label (omega arith) few first.0 has (first.1 ∙ sym zero_is ∙ same) in
           omega (arith, is, lower)
 
   -- so its own byte stands at its place

@@ -18,7 +18,7 @@ use Rattle.kept_lines.specs.KeptLines.{kept_set}
 use Rattle.kept_lines.specs.Starts.{start_of}
 use Rattle.kept_lines.proofs.Laws.{sets_are_exact}
 use Rattle.song_lists.specs.DataLists.{order_places, HasLines}
-use Rattle.player_code.specs.CodeLines.{code_lines, play_entrance, init_entrance}
+use Rattle.player_code.specs.CodeLines.{cleared_of, code_lines, play_entrance, init_entrance}
 use Rattle.player_image.specs.Images.{image_holds, image_places, image_variables, code_bytes, numbered, IsListingOf}
 use Rattle.player_image.specs.Systems.{timer_code, AreAlikeButTimer, SystemsShareImages, TimerCodesAreWorked}
 use Rattle.player_image.proofs.Places.{SamePlaces, same_self, same_both, code_same}
@@ -42,29 +42,29 @@ module _ (places : ℕ → ℕ) (variables : List ℕ) (pointer : ℕ) (holds : 
       lines_on system places variables pointer holds o lists
       ≡ before_timer places variables pointer holds
       ++ (if_timed timed (timer_value system o.speed % 256) (timer_value system o.speed / 256)
-      ++ behind_timer pointer holds (start_of o).tempo (start_of o).funk (length variables) lists)
+      ++ behind_timer pointer holds (start_of o).tempo (start_of o).funk (cleared_of (length variables)) lists)
   split_lines system timed is =
       around places variables pointer holds (start_of (on_system system o)) lists
       ∙ ap (λ z.
       before_timer places variables pointer holds
       ++ (if_timed z (timer_value system o.speed % 256) (timer_value system o.speed / 256)
-      ++ behind_timer pointer holds (start_of o).tempo (start_of o).funk (length variables) lists)) is
+      ++ behind_timer pointer holds (start_of o).tempo (start_of o).funk (cleared_of (length variables)) lists)) is
 
   timed_lines : (system : System) → holds TIMED ≡ true →
       kept 0 (lines_on system places variables pointer holds o lists)
       ≡ with_timer (kept 0 (before_timer places variables pointer holds)) system o.speed
-      (kept 0 (behind_timer pointer holds (start_of o).tempo (start_of o).funk (length variables) lists))
+      (kept 0 (behind_timer pointer holds (start_of o).tempo (start_of o).funk (cleared_of (length variables)) lists))
   timed_lines system timed =
       ap (kept 0) (split_lines system true timed)
       ∙ kept_timer system o.speed (before_timer places variables pointer holds)
-      (behind_timer pointer holds (start_of o).tempo (start_of o).funk (length variables) lists)
+      (behind_timer pointer holds (start_of o).tempo (start_of o).funk (cleared_of (length variables)) lists)
 
   faster_alike : (origin : ℕ) (one two : System) → IsSpeed o.speed → holds TIMED ≡ true →
       AreAlikeButTimer o.speed one two (assembled_bytes 0 origin (lines_on one places variables pointer holds o lists))
       (assembled_bytes 0 origin (lines_on two places variables pointer holds o lists))
   faster_alike origin one two is timed =
       let alike = alike_around (kept 0 (before_timer places variables pointer holds))
-      (kept 0 (behind_timer pointer holds (start_of o).tempo (start_of o).funk (length variables) lists)) origin o.speed
+      (kept 0 (behind_timer pointer holds (start_of o).tempo (start_of o).funk (cleared_of (length variables)) lists)) origin o.speed
       one two is in
       record {
         before = alike.before;
@@ -85,9 +85,9 @@ module _ (places : ℕ → ℕ) (variables : List ℕ) (pointer : ℕ) (holds : 
       (code_lines places variables pointer holds (start_of (on_system two o)))
   its_code one two =
       code_same places variables variables (play_entrance pointer holds)
-      (init_entrance pointer holds (start_of (on_system one o)) (length variables))
-      (init_entrance pointer holds (start_of (on_system two o)) (length variables)) refl
-      (init_sizes pointer holds (start_of (on_system one o)) (start_of (on_system two o)) (length variables))
+      (init_entrance pointer holds (start_of (on_system one o)) (cleared_of (length variables)))
+      (init_entrance pointer holds (start_of (on_system two o)) (cleared_of (length variables))) refl
+      (init_sizes pointer holds (start_of (on_system one o)) (start_of (on_system two o)) (cleared_of (length variables)))
 
   places_same : (one two : System) →
       SamePlaces (lines_on one places variables pointer holds o lists)
@@ -129,6 +129,7 @@ module _ (packed : PackedSong) (o : Options) (other : System) (origin pointer : 
         (λ voice. origin + n + slice_index (order_places (image_holds packed o NOTE_DEPENDENT) packed) voice)
         (slice_index here.variables))
         size_same here.first;
+    unplayed = here.unplayed;
     are = refl;
   }
 

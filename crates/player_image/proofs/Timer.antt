@@ -1,6 +1,6 @@
 -- The lines of an image around those that set the timer, and what these are assembled to.
 use Rattle.std.proofs.Common.{◌≡◌, ℕ, zero, suc, ◌+◌, ◌-◌, ◌/◌, ◌%◌, Bool, if◌then◌else◌, List, [], ◌∷◌, ◌++◌}
-use Rattle.std.proofs.Common.{length, Some, refl, ap, ◌∙◌, arith, append_assoc}
+use Rattle.std.proofs.Common.{length, refl, ap, ◌∙◌, arith, append_assoc}
 use Rattle.cpu6502.specs.declared.mnemonic.Mnemonic.TheVariants.{Lda, Ldx, Rts, Sta}
 use Rattle.cpu6502.specs.declared.mnemonic.Mode.TheVariants.{Implied, Immediate, Absolute}
 use Rattle.asm6502.specs.declared.lines.Operand.TheVariants.{Nothing, Number}
@@ -17,13 +17,12 @@ use Rattle.scopes.specs.Trees.{Tree, tree_of}
 use Rattle.scope_lines.specs.Instructions.{code}
 use Rattle.scope_lines.specs.Lines.{block_lines}
 use Rattle.scope_calls.specs.Entrances.{lead_lines, entrance_lines, entrance_size}
-use Rattle.player_memory.specs.declared.conditions.TheConstants.{TIMED, FUNK_TEMPO}
-use Rattle.player_memory.specs.declared.labels.TheConstants.{REST}
+use Rattle.player_memory.specs.declared.conditions.TheConstants.{TIMED, FUNK_TEMPO, SUBTUNES}
 use Rattle.player_text.specs.declared.init.TheConstants.{SUBTUNE_TAKEN, REGISTERS_CLEARED, VARIABLES_CLEARED}
 use Rattle.player_text.specs.declared.init.TheConstants.{FUNK_STARTED, VOICES_STARTED, VOICE_STARTED, TEMPO_STARTED}
 use Rattle.player_text.specs.declared.texts.Start.{Start}
 use Rattle.player_code.specs.declared.labels.TheConstants.{INIT_CODE}
-use Rattle.player_code.specs.CodeLines.{play_entrance, init_entrance, front_lines, middle_lines, code_lines}
+use Rattle.player_code.specs.CodeLines.{play_entrance, init_entrance, cleared_of, front_lines, middle_lines, code_lines}
 use Rattle.player_image.specs.Systems.{timer_code, AreAlikeButTimer}
 use Rattle.player_image.proofs.Places.{same_self, same_both, same_addresses}
 use Rattle.player_image.proofs.Alone.{bytes_along}
@@ -42,7 +41,7 @@ if_timed timed low high = if timed then timer_lines low high else []
 
 -- what stands in front of them
 abbrev taken_lines : ℕ → (ℕ → Bool) → List Line
-taken_lines pointer holds = lead_lines (Some REST) ++ block_lines INIT_CODE pointer holds 4 (tree_of SUBTUNE_TAKEN.now)
+taken_lines pointer holds = lead_lines ++ block_lines INIT_CODE pointer holds 1 (tree_of SUBTUNE_TAKEN.now)
 
 -- and behind them: the block's other lines, and the return
 abbrev started_tree : ℕ → ℕ → ℕ → Tree
@@ -54,11 +53,17 @@ started_tree tempo funk count =
 
 abbrev started_block : ℕ → (ℕ → Bool) → ℕ → ℕ → ℕ → List Line
 started_block pointer holds tempo funk count =
-    block_lines INIT_CODE pointer holds (10 + (if holds TIMED then 10 else 0)) (started_tree tempo funk count)
+    block_lines INIT_CODE pointer holds (1 + (if holds SUBTUNES then 7 else 0) + 1 + (if holds TIMED then 10 else 0))
+    (started_tree tempo funk count)
 
 abbrev pub started_lines : ℕ → (ℕ → Bool) → ℕ → ℕ → ℕ → List Line
 started_lines pointer holds tempo funk count =
     started_block pointer holds tempo funk count ++ code Rts Implied Nothing ∷ []
+
+-- the lines of the number, the last of which is always kept, those of the timer, the others, and the return
+joined : (number : List Line) (last : Line) (timer others back : List Line) →
+    (number ++ last ∷ (timer ++ others)) ++ back ≡ (number ++ last ∷ []) ++ (timer ++ (others ++ back))
+joined number last timer others back = simp append_assoc
 
 init_lines_are : (pointer : ℕ) (holds : ℕ → Bool) (start : Start) (count : ℕ) →
     entrance_lines (init_entrance pointer holds start count)
@@ -67,8 +72,8 @@ init_lines_are : (pointer : ℕ) (holds : ℕ → Bool) (start : Start) (count :
     ++ started_lines pointer holds start.tempo start.funk count)
 unfolding init_entrance
 init_lines_are pointer holds start count =
-    ap (λ ls. taken_lines pointer holds ++ ls)
-    (append_assoc (if_timed (holds TIMED) start.timer_low start.timer_high)
+    ap (λ ls. lead_lines ++ ls)
+    (joined _ _ (if_timed (holds TIMED) start.timer_low start.timer_high)
     (started_block pointer holds start.tempo start.funk count) (code Rts Implied Nothing ∷ []))
 
 -- it takes as many bytes, whatever the numbers are
@@ -97,16 +102,16 @@ pub around : (places : ℕ → ℕ) (variables : List ℕ) (pointer : ℕ) (hold
     code_lines places variables pointer holds start ++ lists
     ≡ before_timer places variables pointer holds
     ++ (if_timed (holds TIMED) start.timer_low start.timer_high
-    ++ behind_timer pointer holds start.tempo start.funk (length variables) lists)
+    ++ behind_timer pointer holds start.tempo start.funk (cleared_of (length variables)) lists)
 around places variables pointer holds start lists =
     ap (λ init.
     (front_lines places variables
     ++ (entrance_lines (play_entrance pointer holds) ++ (middle_lines ++ init)))
     ++ lists)
-    (init_lines_are pointer holds start (length variables))
+    (init_lines_are pointer holds start (cleared_of (length variables)))
     ∙ regrouped (front_lines places variables) (entrance_lines (play_entrance pointer holds)) middle_lines
     (taken_lines pointer holds) (if_timed (holds TIMED) start.timer_low start.timer_high)
-    (started_lines pointer holds start.tempo start.funk (length variables)) lists
+    (started_lines pointer holds start.tempo start.funk (cleared_of (length variables))) lists
 
 -- ---- the bytes
 

@@ -12,7 +12,7 @@ use Rattle.asm6502.specs.Assembly.{assembled_bytes}
 use Rattle.asm6502.specs.Standing.{BytesStand}
 use Rattle.player_memory.specs.Holds.{order_label}
 use Rattle.player_memory.specs.declared.labels.TheConstants.{ORDERS}
-use Rattle.player_memory.specs.declared.variables.TheConstants.{SONG_BYTES}
+use Rattle.player_memory.specs.declared.variables.TheConstants.{FIRST_SONG_BYTES}
 use Rattle.player_memory.specs.Playing.{own_at}
 use Rattle.player_memory.specs.Starting.{SongRowsBegin, Begins}
 use Rattle.scopes.specs.Desk.{Layout}
@@ -25,7 +25,8 @@ use Rattle.kept_lines.specs.Starts.{start_of}
 use Rattle.kept_blocks.specs.KeptBlocks.{KeepsLines}
 use Rattle.kept_blocks.proofs.Laws.{sets_keep_their_lines}
 use Rattle.player_code.specs.Plans.{Plan, IsPlan, plan_lines, plan_size, plan_layout}
-use Rattle.variable_places.proofs.Laws.{places_are_within, counts_are_few, first_is_first}
+use Rattle.variable_places.proofs.Laws.{places_are_within, counts_are_few, counts_are_no_fewer, uncleared_are_first}
+use Rattle.variable_places.proofs.Laws.{cleared_are_behind}
 use Rattle.player_calls.specs.WideLayouts.{wide_layout, with_zeros}
 use Rattle.player_calls.specs.Players.{IsPlayer, HasImage}
 use Rattle.player_code.proofs.Laws.{labels_stand_in_place}
@@ -65,7 +66,7 @@ addressed layout tempo funk one two at same begins = record {
   voices = λ voice few.
       let mine = begins.voices voice few in record {
         state = mine.state;
-        song = subst (λ address. SongRowsBegin SONG_BYTES address (own_at layout at voice)) (same voice few) mine.song;
+        song = subst (λ address. SongRowsBegin FIRST_SONG_BYTES address (own_at layout at voice)) (same voice few) mine.song;
       };
   common = begins.common;
   handed = begins.handed;
@@ -77,8 +78,9 @@ module _ (packed : PackedSong) (song : Song) (o : Options) (origin pointer : ℕ
   its_plan : IsPlan (plan_of packed o origin pointer image.its.variables image.its.lists)
   its_plan =
       let count = placed_length (image_places packed o) (image_count packed o) image.its.variables in
-      let few = counts_are_few (image_holds packed o) in record {
-        variables_low = omega (arith, count, few);
+      let few = counts_are_few (image_holds packed o) in
+      let least = counts_are_no_fewer (image_holds packed o) in record {
+        variables_low = omega (arith, count, least);
         variables_high = omega (arith, count, few);
         places = λ label less. (let place = places_are_within (image_holds packed o) label less in omega (arith, place, count));
         pointer_low = s.pointer_low;
@@ -160,7 +162,8 @@ module _ (packed : PackedSong) (song : Song) (o : Options) (origin pointer : ℕ
         options = λ which. (wide which).options_are;
         timed = kept.timer;
         laid = player_layout packed o origin pointer image.its.variables image.its.lists laid;
-        first = (first_is_first (image_holds packed o)).1;
+        first = λ label few. (uncleared_are_first (image_holds packed o) label few).1;
+        behind = cleared_are_behind (image_holds packed o);
         timer = sets_timer packed o origin pointer image.its.variables image.its.lists;
         reads_variables = reads_variables packed o origin pointer image.its.variables image.its.lists;
         reads_lists = reads_lists packed o origin pointer image.its.variables image.its.lists;

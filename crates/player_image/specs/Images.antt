@@ -1,6 +1,6 @@
 -- What an image of a packed song is made of: the code of the lines that are kept for what it asks for and the options,
 -- with the variables as the first subtune begins, and the song's lists behind it. This is the project's own player.
-use Rattle.std.specs.Prelude.{◌≡◌, ℕ, ◌+◌, ◌&&◌, ◌||◌, nat_le, nat_lt, Bool, true, false, List, length}
+use Rattle.std.specs.Prelude.{◌≡◌, ℕ, ◌+◌, ◌<◌, ◌&&◌, ◌||◌, nat_le, nat_lt, Bool, true, false, List, [], ◌∷◌, length}
 use Rattle.std.specs.Prelude.{slice_index, nat_eq, Option, Some, None, map}
 use Rattle.std.specs.List.{find, range_with_len}
 use Rattle.play_model.specs.declared.options.Options.{Options}
@@ -11,8 +11,9 @@ use Rattle.asm6502.specs.Assembly.{assembled_bytes}
 use Rattle.scopes.specs.Desk.{Layout}
 use Rattle.scope_lines.specs.Readings.{holds_in}
 use Rattle.player_memory.specs.declared.conditions.TheConstants.{NOTE_DEPENDENT, TIMED}
-use Rattle.player_memory.specs.declared.labels.TheConstants.{VARIABLES}
-use Rattle.player_memory.specs.Starting.{Begins}
+use Rattle.player_memory.specs.declared.labels.TheConstants.{VARIABLES, PATTERN_LOW, PATTERN_HIGH}
+use Rattle.player_memory.specs.Playing.{own_at}
+use Rattle.player_memory.specs.Starting.{AreZero, Begins}
 use Rattle.kept_lines.specs.Asked.{asked_by}
 use Rattle.kept_lines.specs.Starts.{start_of}
 use Rattle.kept_lines.specs.KeptLines.{kept_set}
@@ -96,6 +97,11 @@ numbered = record {
   may_write = λ place. false;
 }
 
+-- no voice has a pattern yet: the bytes of its place, which say nothing then, are 0
+abbrev pub HaveNoPattern : (ℕ → ℕ) → Type 0
+HaveNoPattern variables =
+    (voice : ℕ) → voice < 3 → AreZero (PATTERN_LOW ∷ PATTERN_HIGH ∷ []) (own_at numbered variables voice)
+
 -- the address of a voice's orderlist in the first subtune: the lists stand behind the code
 abbrev pub first_order : PackedSong → Options → ℕ → ℕ → List ℕ → ℕ → ℕ
 first_order packed o origin pointer variables voice =
@@ -113,6 +119,7 @@ pub record IsListingOf (packed : PackedSong) (o : Options) (origin pointer : ℕ
       (origin + code_bytes packed o pointer variables) lists
   pub first : Begins numbered (start_of o).tempo (start_of o).funk
       (first_order packed o origin pointer variables) (slice_index variables)
+  pub unplayed : HaveNoPattern (slice_index variables)
   pub are : listing ≡ plan_lines (plan_of packed o origin pointer variables lists)
 
 -- an image: the bytes of its listing

@@ -1,6 +1,7 @@
--- Bytes in the order of their places, and where the blocks of an image may read and write, worked by hand.
-use Rattle.std.specs.Prelude.{◌≡◌, ℕ, true, false, nat_eq, nat_le, if◌then◌else◌, [], ◌∷◌}
-use Rattle.player_image.specs.Images.{placed, is_read, is_written}
+-- Bytes in the order of their places, variables without a pattern, and where the blocks of an image may read and write, worked by hand.
+use Rattle.std.specs.Prelude.{◌≡◌, ℕ, ◌+◌, true, false, nat_eq, nat_le, if◌then◌else◌, [], ◌∷◌}
+use Rattle.player_memory.specs.declared.labels.TheConstants.{PATTERN_LOW, PATTERN_HIGH, OFFSET}
+use Rattle.player_image.specs.Images.{placed, is_read, is_written, HaveNoPattern}
 
 -- ---- bytes by their places
 
@@ -12,6 +13,20 @@ few_places label = if nat_eq label 1 then 0 else if nat_le label 2 then 1 else 9
 pub record BytesArePlaced : Type 0 where
   pub three : placed few_places 3 (5 ∷ 6 ∷ 7 ∷ []) ≡ 6 ∷ 5 ∷ 0 ∷ []
   pub second : ¬ (placed few_places 3 (5 ∷ 6 ∷ 7 ∷ []) ≡ 6 ∷ 7 ∷ 0 ∷ [])
+
+-- ---- no pattern
+
+-- all variables are 0 but this one
+abbrev pub only_at : ℕ → ℕ → ℕ
+only_at label other = if nat_eq other label then 1 else 0
+
+-- Voices have no pattern where all is 0, whatever stands in another byte; but they have one with a byte of its place,
+-- the low byte of the second voice's or the high byte of the third's.
+pub record PatternsAreDenied : Type 0 where
+  pub none : HaveNoPattern (λ label. 0)
+  pub offset : HaveNoPattern (only_at (OFFSET + 7))
+  pub low : ¬ HaveNoPattern (only_at (PATTERN_LOW + 7))
+  pub high : ¬ HaveNoPattern (only_at (PATTERN_HIGH + 14))
 
 -- ---- where the blocks may read and write
 

@@ -2,7 +2,7 @@
 
 ghost use Rattle.player_image.specs.ImageLaws.{ImagesArePlayers, ImagesPlay};
 ghost use Rattle.player_image.specs.Systems.{ImagesAreOne, SystemsShareImages, TimerCodesAreWorked};
-ghost use Rattle.player_image.specs.WorkedImages.{BytesArePlaced, PlacesAreWorked};
+ghost use Rattle.player_image.specs.WorkedImages.{BytesArePlaced, PatternsAreDenied, PlacesAreWorked};
 
 /// An image of a packed song that stands for a song is a player, where it stands from `$0800` up to `$D000` and its
 /// pointer is from 2 to 254, with any options at any legal speed, and at most 32 subtunes and 208 patterns of at most 256
@@ -25,9 +25,10 @@ pub fn systems_share_images()
     ensures worked { TimerCodesAreWorked }
 {}
 
-/// Bytes in the order of their places; and where the blocks of an image at `$1000` may read and write, and where they may
+/// Bytes in the order of their places; variables without a pattern, and some with one; and where the blocks of an image at `$1000` may read and write, and where they may
 /// not.
 pub fn worked_places()
     ensures bytes { BytesArePlaced }
+    ensures patterns { PatternsAreDenied }
     ensures places { PlacesAreWorked }
 {}

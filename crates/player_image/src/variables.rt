@@ -4,7 +4,7 @@ ghost use Rattle.std.specs.Prelude.{◌≡◌, ◌+◌, ◌/◌, ◌%◌, ◌≤
 ghost use Rattle.player_memory.specs.declared.labels.TheConstants.{VARIABLES};
 ghost use Rattle.player_memory.specs.Starting.{Begins};
 ghost use Rattle.kept_lines.specs.Starts.{start_of};
-ghost use Rattle.player_image.specs.Images.{numbered, label_at, byte_of, placed};
+ghost use Rattle.player_image.specs.Images.{numbered, HaveNoPattern, label_at, byte_of, placed};
 
 use base::{ByteList, NoMemory};
 use kept_lines::start_of;
@@ -38,6 +38,7 @@ fn begin_voice(variables: &mut [u8; 113], behind: usize, order: u16, tempo: u8)
 pub fn start_variables(options: &Options, orders: [u16; 3]) -> [u8; 113]
     ensures begin { Begins numbered (start_of options.now).tempo (start_of options.now).funk
         (λ voice. slice_index orders voice) (slice_index result) }
+    ensures unplayed { HaveNoPattern (slice_index result) }
     ensures size { length result ≡ VARIABLES }
 {
     let start = start_of(options);

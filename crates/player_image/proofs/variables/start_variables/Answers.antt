@@ -6,7 +6,7 @@ use Rattle.player_memory.specs.declared.labels.TheConstants.{TEMPO, VOLUME, FUNK
 use Rattle.player_memory.specs.Playing.{own_at}
 use Rattle.player_memory.specs.Starting.{VoiceBegins, Begins}
 use Rattle.player_text.specs.declared.texts.Start.{Start}
-use Rattle.player_image.specs.Images.{numbered}
+use Rattle.player_image.specs.Images.{numbered, HaveNoPattern}
 use Rattle.player_image.proofs.variables.start_variables.Goals as goal
 
 -- with the bytes of a voice that don't begin with 0
@@ -49,8 +49,28 @@ set_in_turn : (its start : Start) (orders one two three : List ℕ) → its ≡ 
 set_in_turn its start orders one two three same first second third =
     rw third (rw second (rw first (rw same (begun start.tempo start.funk orders))))
 
+-- no voice has a pattern
+no_pattern : (tempo funk : ℕ) (orders : List ℕ) → HaveNoPattern (slice_index (all_begun tempo funk orders))
+no_pattern tempo funk orders zero few = assumption
+no_pattern tempo funk orders (suc zero) few = assumption
+no_pattern tempo funk orders (suc (suc zero)) few = assumption
+no_pattern tempo funk orders (suc (suc (suc more))) few = absurd (omega (arith, few))
+
+none_in_turn : (its : Start) (orders one two three : List ℕ) →
+    one ≡ with_voice 0 (slice_index orders 0) its.tempo (replicate VARIABLES 0) →
+    two ≡ with_voice 7 (slice_index orders 1) its.tempo one →
+    three ≡ with_voice 14 (slice_index orders 2) its.tempo two →
+    HaveNoPattern (slice_index (with_shared its.tempo its.funk three))
+none_in_turn its orders one two three first second third =
+    rw third (rw second (rw first (no_pattern its.tempo its.funk orders)))
+
 pub returns-clause-begin : goal.returns-clause-begin
 returns-clause-begin c =
     set_in_turn c.start_of-start.result _ c.args.orders c.begin_voice.new.variables c.begin_voice-2.new.variables
     c.begin_voice-3.new.variables c.start_of-start.ensures c.begin_voice.ensures c.begin_voice-2.ensures
     c.begin_voice-3.ensures
+
+pub returns-clause-unplayed : goal.returns-clause-unplayed
+returns-clause-unplayed c =
+    none_in_turn c.start_of-start.result c.args.orders c.begin_voice.new.variables c.begin_voice-2.new.variables
+    c.begin_voice-3.new.variables c.begin_voice.ensures c.begin_voice-2.ensures c.begin_voice-3.ensures
