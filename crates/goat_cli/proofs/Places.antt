@@ -9,7 +9,7 @@ use Rattle.packing_rules.specs.SongSizes.{packed_size}
 use Rattle.kept_lines.specs.Asked.{asked_by}
 use Rattle.image_parts.specs.CodeParts.{code_length}
 use Rattle.image_parts.specs.Lengths.{slide_bytes, read_bytes, read_of, frequency_bytes, image_length}
-use Rattle.song_costs.specs.Kinds.{read_data}
+use Rattle.song_costs.specs.Kinds.{instrument_count, read_data}
 use Rattle.faithful.proofs.Laws.{always_is_faithful}
 use Rattle.player_build.specs.declared.image.Image.{Image}
 use Rattle.player_build.specs.Room.{IsTooLarge}
@@ -49,8 +49,11 @@ module _ (packed : PackedSong) (song : Song) (o : Options) (packs : PacksSong pa
     where
       read_is : read_of packed ≡ read_data song packs.used (asked_by packed)
       read_is =
-          ap (λ size. read_bytes (asked_by packed) (length packed.instruments) size) packs.size
-          ∙ ap (λ count. read_bytes (asked_by packed) count (packed_size song packs.used)) packs.instruments
+          ap (λ size. read_bytes (asked_by packed) (length packed.instruments) (length packed.subtunes) size) packs.size
+          ∙ ap (λ count. read_bytes (asked_by packed) count (length packed.subtunes) (packed_size song packs.used))
+          packs.instruments
+          ∙ ap (λ count. read_bytes (asked_by packed) (instrument_count packs.used) count (packed_size song packs.used))
+          packs.stands.subtunes
 
   module _ (files : Files) (name : List ℕ) (address : ℕ) (holds : HoldsSong files name song) where
     pub has_room : (built : Image) → IsBuild packed built.place o built → built.place.address ≡ address →

@@ -20,8 +20,8 @@ use Rattle.packing_rules.specs.SongSizes.{data_size, packed_size}
 use Rattle.packing_rules.proofs.Laws.{packed_size_is_within, first_seen_length, same_sets}
 use Rattle.asked_numbers.proofs.Laws.{ranges_lie_in_the_table}
 use Rattle.image_parts.specs.CodeParts.{code_length}
-use Rattle.image_parts.specs.Lengths.{slide_bytes, shared_bytes, unread_bytes, frequency_bytes}
-use Rattle.song_costs.specs.Kinds.{instrument_count, read_data}
+use Rattle.image_parts.specs.Lengths.{slide_bytes, shared_bytes, unread_bytes, unlisted_bytes, frequency_bytes}
+use Rattle.song_costs.specs.Kinds.{instrument_count, subtune_count, read_data}
 use Rattle.image_parts.proofs.Laws.{code_is_bounded}
 use Rattle.jobs.specs.Packed.{IsImageLength}
 use Rattle.jobs.specs.Stages.{IsThere, Fits, SpellsSong, CanBePlayed, HasShortPatterns, HasRoomForImage, input_limit}
@@ -73,10 +73,12 @@ images_are_bounded song o used features count is are_used are_features =
     (adds (data_size song is.used) (code_bound features o) (read_data song is.used is.asked) (shared_bytes is.asked) _ _
     (code_length is.asked o) count
     (less (packed_size song is.used) (shared_bytes is.asked) (unread_bytes is.asked (instrument_count is.used))
-    (data_size song is.used) (packed_size_is_within song is.used)) (player_is_bounded song o features is) is.count_is)
+    (unlisted_bytes is.asked (subtune_count song)) (data_size song is.used) (packed_size_is_within song is.used))
+    (player_is_bounded song o features is) is.count_is)
   where
-    less : (size shared unread most : ℕ) → size ≤ most → size + shared - unread ≤ most + shared
-    less size shared unread most within = omega (arith, within)
+    less : (size shared unread unlisted most : ℕ) → size ≤ most →
+        size + shared - (unread + unlisted) ≤ most + shared
+    less size shared unread unlisted most within = omega (arith, within)
 
 pub only_large_images : OnlyLargeImagesAreRefused
 only_large_images files name address o lines song used features ends holds are_used are_features =

@@ -1,5 +1,5 @@
 -- The kinds of a packed song have the bytes that its song says.
-use Rattle.std.proofs.Common.{◌≡◌, ℕ, ◌+◌, ◌-◌, ◌*◌, ◌≤◌, List, [], ◌∷◌, map, length, refl, sym}
+use Rattle.std.proofs.Common.{◌≡◌, ℕ, ◌+◌, ◌-◌, ◌*◌, ◌≤◌, Bool, if◌then◌else◌, List, [], ◌∷◌, map, length, refl, sym}
 use Rattle.std.proofs.Common.{◌∙◌, ap, arith}
 use Rattle.std.specs.List.{filter, sum_by}
 use Rattle.std.proofs.lemmas.List.{length-map, length-append}
@@ -13,7 +13,8 @@ use Rattle.song_model.specs.LookUp.{instrument_at, playable_subtunes}
 use Rattle.play_model.specs.declared.options.Options.{Options}
 use Rattle.packed_form.specs.declared.packed_songs.PackedSong.{PackedSong}
 use Rattle.packed_form.specs.Sizes.{list_size, subtune_size, packed_song_size}
-use Rattle.player_memory.specs.SongLists.{shared_size, unread_size}
+use Rattle.player_memory.specs.declared.conditions.TheConstants.{SUBTUNES}
+use Rattle.player_memory.specs.SongLists.{shared_size, unread_size, unlisted_size}
 use Rattle.packing_rules.specs.Segments.{ProgramTable, numbers, row_of, keeps}
 use Rattle.packing_rules.specs.ProgramMaps.{retargeted}
 use Rattle.packing_rules.specs.UsedSets.{UsedSets}
@@ -21,14 +22,16 @@ use Rattle.packing_rules.specs.Renumbering.{program_rows, program_number, table_
 use Rattle.packing_rules.specs.Renumbering.{pulse_programs, filter_programs}
 use Rattle.packing_rules.specs.SongSizes.{order_size, orders_size, rows_size}
 use Rattle.kept_lines.specs.Asked.{asked_by}
+use Rattle.kept_lines.proofs.Laws.{asked_is_exact}
 use Rattle.image_parts.specs.CodeParts.{code_length}
-use Rattle.image_parts.specs.Lengths.{slide_bytes, unread_bytes, read_bytes, read_of, frequency_bytes}
+use Rattle.image_parts.specs.Lengths.{slide_bytes, shared_bytes, unread_bytes, unlisted_bytes, read_of, frequency_bytes}
 use Rattle.image_parts.proofs.Laws.{shared_is, unread_is, read_is}
-use Rattle.player_memory.proofs.Laws.{unread_few}
+use Rattle.player_memory.proofs.Laws.{unread_few, unlisted_few}
+use Rattle.player_memory.proofs.Laws as player_memory
 use Rattle.song_pack.specs.Packed.{order_byte, order_bytes, packed_subtune, passing_numbers, packed_instrument, IsPacked}
 use Rattle.song_pack.proofs.Laws.{size_is}
 use Rattle.song_costs.specs.declared.costs.Costs.{Costs}
-use Rattle.song_costs.specs.Kinds.{speed_bytes, instrument_count, costs_of}
+use Rattle.song_costs.specs.Kinds.{speed_bytes, instrument_count, subtune_count, costs_of}
 
 order_bytes_are : (number : ℕ → ℕ) (order : Order) → list_size (order_bytes number order) ≡ order_size order
 order_bytes_are number order =
@@ -68,6 +71,20 @@ instruments_are song used packed is =
     let count = length-filter used.instruments (numbers MOST_INSTRUMENTS) in
     omega arith
 
+pub subtunes_are : (song : Song) (used : UsedSets) (packed : PackedSong) → IsPacked song used packed →
+    length packed.subtunes ≡ subtune_count song
+subtunes_are song used packed is =
+    ap length is.subtunes ∙ length-map (playable_subtunes song) (packed_subtune (pattern_number song used))
+
+-- each has six bytes for the addresses of its orderlists
+pub subtunes_are_large : (subtunes : List Subtune) → 6 * length subtunes ≤ sum_by orders_size subtunes
+subtunes_are_large subtunes =
+    let packed = map (packed_subtune (λ pattern. pattern)) subtunes in
+    let large = player_memory.subtunes_are_large packed in
+    let sizes = orders_are (λ pattern. pattern) subtunes in
+    let count = length-map subtunes (packed_subtune (λ pattern. pattern)) in
+    omega (arith, large, sizes, count)
+
 -- what is left of the whole size is that of the orderlists
 rest_is : (orders patterns instruments wave pulse filters speed size : ℕ) →
     size ≡ orders + patterns + instruments + wave + pulse + filters + speed →
@@ -100,44 +117,61 @@ same_costs : {r r' o o' p p' i i' w w' u u' f f' s s' n n' : ℕ} → r ≡ r' �
     })
 same_costs a b c d e f g h i = rw (a, b, c, d, e, f, g, h, i) refl
 
+-- the song's facts say whether the addresses of orderlists are listed
+unlisted_is : (packed : PackedSong) → unlisted_bytes (asked_by packed) (length packed.subtunes) ≡ unlisted_size packed
+unlisted_is packed =
+    ap (λ (z : Bool). if z then 0 else 6 * length packed.subtunes)
+    (asked_is_exact packed.features.0 packed.facts SUBTUNES)
+
+-- those that are in no list are bytes of the orderlists
+pub unlisted_within : (packed : PackedSong) → unlisted_size packed ≤ sum_by subtune_size packed.subtunes
+unlisted_within packed =
+    let few = unlisted_few packed in
+    let large = player_memory.subtunes_are_large packed.subtunes in
+    omega (arith, few, large)
+
 -- where each kind has the bytes that were counted, all have those of the image
 pub kinds_add_up : (packed : PackedSong) (slides frequencies : ℕ)
-    {player code patterns count shared unread wave pulse filters speed size : ℕ} → player ≡ code →
+    {player code patterns count shared unread unlisted wave pulse filters speed size : ℕ} → player ≡ code →
     patterns ≡ sum_by list_size packed.patterns → count ≡ length packed.instruments →
-    shared ≡ shared_size packed → unread ≡ unread_size packed → wave ≡ 2 * length packed.wave → pulse ≡ 2 * length packed.pulse →
+    shared ≡ shared_size packed → unread ≡ unread_size packed → unlisted ≡ unlisted_size packed →
+    wave ≡ 2 * length packed.wave → pulse ≡ 2 * length packed.pulse →
     filters ≡ 2 * length packed.filter → speed ≡ 2 * length packed.speed →
     size ≡ packed_song_size packed →
-    player + (size - patterns - 9 * count - wave - pulse - filters - speed + patterns + (9 * count + shared - unread)
-    + wave + pulse + filters + (speed + slides) + frequencies)
+    player + (size - patterns - 9 * count - wave - pulse - filters - speed - unlisted + patterns
+    + (9 * count + shared - unread) + wave + pulse + filters + (speed + slides) + frequencies)
     ≡ read_of packed + slides + frequencies + code
-kinds_add_up packed slides frequencies a b c s u d e f g h =
+kinds_add_up packed slides frequencies a b c s u l d e f g h =
     let read = read_is packed in
     let few = unread_few packed in
-    sum (sum_by subtune_size packed.subtunes) _ _ _ _ _ _ _ _ _ _ _ (read_of packed) _ _ (length packed.instruments) a
-    (omega (arith, b, c, d, e, f, g, h)) c (omega (arith, u, few)) (omega (arith, read, s, u, h))
+    let within = unlisted_within packed in
+    sum (sum_by subtune_size packed.subtunes) _ _ _ _ _ _ _ _ _ _ _ _ (read_of packed) _ _ (length packed.instruments) a
+    (omega (arith, b, c, d, e, f, g, h)) c (omega (arith, u, few)) (omega (arith, l, within))
+    (omega (arith, read, s, u, l, h))
   where
-    sum : (orders player code patterns count shared unread wave pulse filters speed size read slides frequencies
-        instruments : ℕ) → player ≡ code →
+    sum : (orders player code patterns count shared unread unlisted wave pulse filters speed size read slides
+        frequencies instruments : ℕ) → player ≡ code →
         size ≡ orders + patterns + 9 * count + wave + pulse + filters + speed → count ≡ instruments →
-        unread ≤ 6 * instruments → read ≡ size + shared - unread →
-        player + (size - patterns - 9 * count - wave - pulse - filters - speed + patterns
+        unread ≤ 6 * instruments → unlisted ≤ orders → read ≡ size + shared - (unread + unlisted) →
+        player + (size - patterns - 9 * count - wave - pulse - filters - speed - unlisted + patterns
         + (9 * count + shared - unread) + wave + pulse + filters + (speed + slides) + frequencies)
         ≡ read + slides + frequencies + code
-    sum orders player code patterns count shared unread wave pulse filters speed size read slides frequencies
-        instruments one two three four five = omega (arith, one, two, three, four, five)
+    sum orders player code patterns count shared unread unlisted wave pulse filters speed size read slides frequencies
+        instruments one two three four five six = omega (arith, one, two, three, four, five, six)
 
 -- numbers that were taken from the packed song
 pub costs_are : (song : Song) (used : UsedSets) (packed : PackedSong) (options : Options) → IsPacked song used packed →
-    {player patterns count shared unread wave pulse filters speed slides size frequencies : ℕ} →
+    {player patterns count shared unread unlisted wave pulse filters speed slides size frequencies : ℕ} →
     player ≡ code_length (asked_by packed) options → patterns ≡ sum_by list_size packed.patterns →
     count ≡ length packed.instruments → shared ≡ shared_size packed → unread ≡ unread_size packed →
-    wave ≡ 2 * length packed.wave → pulse ≡ 2 * length packed.pulse → filters ≡ 2 * length packed.filter → speed ≡ 2 * length packed.speed →
+    unlisted ≡ unlisted_size packed → wave ≡ 2 * length packed.wave → pulse ≡ 2 * length packed.pulse →
+    filters ≡ 2 * length packed.filter → speed ≡ 2 * length packed.speed →
     slides ≡ slide_bytes (asked_by packed) (length packed.speed) → size ≡ packed_song_size packed →
     frequencies ≡ frequency_bytes packed.numbers (read_of packed) →
     ◌≡◌ {A = Costs}
     (record {
       player = player;
-      orders = size - patterns - 9 * count - wave - pulse - filters - speed;
+      orders = size - patterns - 9 * count - wave - pulse - filters - speed - unlisted;
       patterns = patterns;
       instruments = 9 * count + shared - unread;
       wave = wave;
@@ -147,24 +181,38 @@ pub costs_are : (song : Song) (used : UsedSets) (packed : PackedSong) (options :
       frequencies = frequencies;
     })
     (costs_of song used (asked_by packed) packed.numbers options)
-costs_are song used packed options is {player} {patterns} {count} {shared} {unread} {wave} {pulse} {filters} {speed}
-    {slides} {size} {frequencies} a b c o u d e f g s h n =
+costs_are song used packed options is {player} {patterns} {count} {shared} {unread} {unlisted} {wave} {pulse} {filters}
+    {speed} {slides} {size} {frequencies} a b c o u l d e f g s h n =
     let orders : size - patterns - 9 * count - wave - pulse - filters - speed ≡ sum_by subtune_size packed.subtunes =
     rest_is (sum_by subtune_size packed.subtunes) patterns (9 * count) wave pulse filters speed size (omega arith) in
     same_costs a
-    (orders ∙ ap (sum_by subtune_size) is.subtunes ∙ orders_are (pattern_number song used) (playable_subtunes song))
+    (less (orders ∙ ap (sum_by subtune_size) is.subtunes
+    ∙ orders_are (pattern_number song used) (playable_subtunes song))
+    (l ∙ sym (unlisted_is packed) ∙ ap (unlisted_bytes (asked_by packed)) subtunes))
     (b ∙ ap (sum_by list_size) is.patterns)
-    (fewer (c ∙ counted) (o ∙ sym (shared_is packed)) (u ∙ sym (unread_is packed) ∙ ap (unread_bytes (asked_by packed)) counted))
+    (fewer (c ∙ counted) (o ∙ sym (shared_is packed))
+    (u ∙ sym (unread_is packed) ∙ ap (unread_bytes (asked_by packed)) counted))
     (d ∙ rows_are (wave_programs song used) packed.wave is.wave)
     (e ∙ rows_are (pulse_programs song used) packed.pulse is.pulse)
     (f ∙ rows_are (filter_programs song used) packed.filter is.filter)
     (both g s ∙ ap (λ (rows : List TableRow). speed_bytes (asked_by packed) (length rows)) is.speed.rows_are)
     (n ∙ ap (frequency_bytes packed.numbers)
-    (ap (λ (i : ℕ). read_bytes (asked_by packed) i (packed_song_size packed)) counted
-    ∙ ap (read_bytes (asked_by packed) (instrument_count used)) (size_is song used packed is)))
+    (read (asked_by packed) counted subtunes (size_is song used packed is)))
   where
     counted : length packed.instruments ≡ instrument_count used
     counted = instruments_are song used packed is
+
+    subtunes : length packed.subtunes ≡ subtune_count song
+    subtunes = subtunes_are song used packed is
+
+    -- what is read is a matter of how many instruments, subtunes and bytes there are
+    read : (asked : ℕ) {i i' t t' s s' : ℕ} → i ≡ i' → t ≡ t' → s ≡ s' →
+        s + shared_bytes asked - (unread_bytes asked i + unlisted_bytes asked t)
+        ≡ s' + shared_bytes asked - (unread_bytes asked i' + unlisted_bytes asked t')
+    read asked x y z = rw (x, y, z) refl
+
+    less : {a b c d : ℕ} → a ≡ c → b ≡ d → a - b ≡ c - d
+    less x y = rw (x, y) refl
 
     fewer : {a b c d e f : ℕ} → a ≡ d → b ≡ e → c ≡ f → 9 * a + b - c ≡ 9 * d + e - f
     fewer x y z = rw (x, y, z) refl

@@ -8,3 +8,4 @@ mod KeptParts
 mod KeptLists
 -- Worked by hand.
 mod WorkedCosts
+mod WorkedSubtunes

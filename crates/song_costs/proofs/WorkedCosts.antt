@@ -163,7 +163,7 @@ climb = record {
   kept = refl;
   bytes = refl;
   some = λ e. absurd (omega arith);
-  cause = crossing_first CLIMB refl refl (slides CLIMB refl);
+  cause = crossing_first CLIMB refl refl refl (slides CLIMB refl);
 }
 
 rise : IsToldOf no_options (part_cost RISE 17 (InSong (InPattern 1 1)))
@@ -173,7 +173,7 @@ rise = record {
   kept = refl;
   bytes = refl;
   some = λ e. absurd (omega arith);
-  cause = crossing_first RISE refl refl (slides RISE refl);
+  cause = crossing_first RISE refl refl refl (slides RISE refl);
 }
 
 row_slides : IsToldOf no_options (part_cost ROW_SLIDE 9 (InSong (InPattern 1 1)))
@@ -253,7 +253,7 @@ row_commands = record {
   kept = refl;
   bytes = refl;
   some = λ e. absurd (omega arith);
-  cause = crossing_first ROW_COMMAND refl refl
+  cause = crossing_first ROW_COMMAND refl refl refl
       (inr (record { fact = RowSlide; is_kept = refl; needs = facts_are_worked.slide.is_such }));
 }
 
@@ -277,7 +277,7 @@ effects = record {
   kept = refl;
   bytes = refl;
   some = λ e. absurd (omega arith);
-  cause = crossing_first EFFECTS refl refl runs_at;
+  cause = crossing_first EFFECTS refl refl refl runs_at;
 }
 
 filter_used : IsToldOf no_options (part_cost FILTER_USED 9 (InSong (InInstrument 3)))

@@ -1,5 +1,6 @@
 -- Costs of small songs, worked out by hand.
 use Rattle.std.specs.Prelude.{◌≡◌, ◌≢◌, ℕ, ◌+◌, ◌^◌, Bool, true, List, [], ◌∷◌}
+use Rattle.song_model.specs.declared.orders.Subtune.{Subtune}
 use Rattle.song_model.specs.declared.tables.TableName.{TableName}
 use Rattle.song_model.specs.declared.tables.TableName.TheVariants.{Wave, Pulse, Filter, Speed}
 use Rattle.song_model.specs.declared.songs.Song.{Song}
@@ -10,7 +11,7 @@ use Rattle.song_model.specs.Feature.{bit_of}
 use Rattle.play_model.specs.declared.options.Options.{Options}
 use Rattle.play_model.specs.State.{no_options}
 use Rattle.play_model.specs.WorkedRuns.{left_out, first_left_out, all_left_out}
-use Rattle.play_model.specs.WorkedSongs.{one_note, plucked, sides}
+use Rattle.play_model.specs.WorkedSongs.{order, subtune, one_note, plucked, sides}
 use Rattle.asked_numbers.specs.declared.range.NumberRange.{NumberRange}
 use Rattle.packing_rules.specs.UsedSets.{UsedSets}
 use Rattle.packing_rules.specs.WorkedSizes.{among, note_sets, two_rests}
@@ -18,7 +19,7 @@ use Rattle.song_facts.specs.declared.facts.Facts.{Facts}
 use Rattle.song_facts.specs.Facts.{no_facts}
 use Rattle.player_memory.specs.declared.conditions.TheConstants.{CLIMB, DROP, RISE, ROW_SLIDE, FIRST_MASK, LEGATO}
 use Rattle.player_memory.specs.declared.conditions.TheConstants.{GATE_NOTE, NOTE_PULSE, NOTE_FILTER, OWN_TIMER}
-use Rattle.player_memory.specs.declared.conditions.TheConstants.{OWN_WAVE, ROW_COMMAND}
+use Rattle.player_memory.specs.declared.conditions.TheConstants.{OWN_WAVE, SUBTUNES, ROW_COMMAND}
 use Rattle.player_memory.specs.declared.conditions.TheConstants.{SPECIAL_ROW, HELD_NOTE}
 use Rattle.player_memory.specs.declared.conditions.TheConstants.{EFFECTS, FILTER_USED}
 use Rattle.kept_lines.specs.Asked.{asked}
@@ -29,7 +30,7 @@ use Rattle.song_costs.specs.declared.kept.Cause.TheVariants.{InSong, SkipOption,
 use Rattle.song_costs.specs.declared.kept.PartCost.{PartCost}
 use Rattle.song_costs.specs.Kinds.{costs_of, data_bytes, all_bytes}
 use Rattle.song_costs.specs.Kept.{IsPartCost, AreKeptParts}
-use Rattle.song_places.specs.WorkedPlaces.{crossing}
+use Rattle.song_places.specs.WorkedPlaces.{crossing, several}
 
 -- ---- kinds
 
@@ -47,33 +48,51 @@ note_range = record { first = 48; count = 1 }
 abbrev pub note_costs : Costs
 note_costs = costs_of one_note (note_sets (0 ∷ 1 ∷ [])) (asked note_features note_facts) note_range no_options
 
--- three orderlists of one entry, the patterns 01 90 BE 00 and C0 00, one instrument, of which neither a filter program
--- nor a vibrato is read, and whose gateoff timer and first waveform stand for all, two rows in each of two tables; 490
--- bytes of the player that each image has, 90 and 45 for a pulse and a wave program, 12 for a keyoff, and 13 for an
--- instrument that begins a pulse program; and the frequency of number 48, with 41 bytes and a gap of seven in front of
--- it
+-- three orderlists of one entry, whose addresses stand in no list, the patterns 01 90 BE 00 and C0 00, one instrument,
+-- of which neither a filter program nor a vibrato is read, and whose gateoff timer and first waveform stand for all,
+-- two rows in each of two tables; 469 bytes of the player that each image has, 90 and 45 for a pulse and a wave
+-- program, 12 for a keyoff, and 13 for an instrument that begins a pulse program; and the frequency of number 48, with
+-- 35 bytes and a gap of thirteen in front of it
 pub record NoteIsWorked : Type 0 where
   pub each : note_costs ≡ record {
-    player = 650;
-    orders = 15;
+    player = 629;
+    orders = 9;
     patterns = 10;
     instruments = 6;
     wave = 4;
     pulse = 4;
     filter = 0;
     speed = 0;
-    frequencies = 9;
+    frequencies = 15;
   }
   pub bytes : data_bytes note_costs ≡ 48
-  pub all : all_bytes note_costs ≡ 698
+  pub all : all_bytes note_costs ≡ 677
   -- without the zeros, and with the frequency of the song's number alone
-  pub few : note_costs.player ≢ 648
+  pub few : note_costs.player ≢ 627
   pub alone : note_costs.frequencies ≢ 2
   -- without the facts
-  pub bare : (costs_of one_note (note_sets (0 ∷ 1 ∷ [])) note_features note_range no_options).player ≡ 625
+  pub bare : (costs_of one_note (note_sets (0 ∷ 1 ∷ [])) note_features note_range no_options).player ≡ 604
   -- an equal pattern is stored once, and a note for each of three orderlists isn't
   pub once : (costs_of two_rests (note_sets (0 ∷ 1 ∷ 2 ∷ [])) (asked note_features note_facts) note_range no_options).patterns
       ≡ 10
+
+-- the song of one note with its subtune and this one behind it
+abbrev pub with_subtune : Subtune → Song
+with_subtune other = record one_note { subtunes = subtune (0 ∷ []) (1 ∷ []) (1 ∷ []) ∷ other ∷ [] }
+
+abbrev pub another : Subtune
+another = subtune (1 ∷ 0 ∷ []) (1 ∷ []) (1 ∷ [])
+
+abbrev pub orders_of : Song → Facts → ℕ
+orders_of song facts =
+    (costs_of song (note_sets (0 ∷ 1 ∷ [])) (asked note_features facts) note_range no_options).orders
+
+-- an orderlist has its entries, its endmark and its restart position, and where there are several subtunes two bytes
+-- for its address; the orderlists of a subtune that can't be played have none
+pub record OrdersAreCounted : Type 0 where
+  pub one : orders_of one_note note_facts ≡ 9
+  pub two : orders_of (with_subtune another) (record note_facts { subtunes = true }) ≡ 31
+  pub unplayable : orders_of (with_subtune (record another { three = order [] })) note_facts ≡ 9
 
 -- where two instruments are used, these and no third one are counted: with three bytes each and two for both where no
 -- instrument needs another, and with four each where one begins a pulse program; where the two differ in their gateoff
@@ -128,7 +147,7 @@ calculated_costs =
     costs_of (record rich_note { speed = sides 0x84 2 ∷ [] }) rich_sets
     (asked (rich_features + 2 ^ bit_of NoteDependent) rich_facts) (record { first = 0; count = 50 }) no_options
 
--- two bytes for each row, in the kind of its own table, and for the one frequency, since 56 bytes stand in front of it;
+-- two bytes for each row, in the kind of its own table, and for the one frequency, since 50 bytes stand in front of it;
 -- and where speeds are calculated three more for the row of the speed table and for row 0, among those of the table and
 -- not in the player, and two for each frequency up to that of number 49
 pub record TablesAreCounted : Type 0 where
@@ -138,10 +157,10 @@ pub record TablesAreCounted : Type 0 where
   pub filter : rich_costs.filter ≡ 8
   pub speed : rich_costs.speed ≡ 2
   pub frequency : rich_costs.frequencies ≡ 2
-  pub bytes : data_bytes rich_costs ≡ 56
+  pub bytes : data_bytes rich_costs ≡ 50
   pub calculated : calculated_costs.speed ≡ 8
   pub frequencies : calculated_costs.frequencies ≡ 100
-  pub with_slides : data_bytes calculated_costs ≡ 160
+  pub with_slides : data_bytes calculated_costs ≡ 154
 
 -- ---- parts
 
@@ -212,6 +231,21 @@ pub record FactPartsAreWorked : Type 0 where
   pub no_special : ¬ IsToldOf no_options (part_cost SPECIAL_ROW 4 (InSong (InWaveTable 3)))
   pub no_legato : (bytes : ℕ) (cause : Cause) → ¬ IsToldOf no_options (part_cost LEGATO bytes cause)
   pub no_held : (bytes : ℕ) (cause : Cause) → ¬ IsToldOf no_options (part_cost HELD_NOTE bytes cause)
+
+-- of another song the second subtune and the fourth can be played; rows have a command that runs, the first waveform is
+-- 0, and the wave table has a command
+abbrev pub several_asked : ℕ
+several_asked =
+    asked (2 ^ bit_of PortaUp + 2 ^ bit_of WaveTable + 2 ^ bit_of WaveCommand)
+    (record no_facts { row_slide = true; first_mask = true; subtunes = true })
+
+-- what several subtunes cost is told with the first byte of the second one that can be played, and not where one alone
+-- can be
+pub record SubtunePartIsWorked : Type 0 where
+  pub second : IsPartCost several several_asked no_options (part_cost SUBTUNES 20 (InSong (InOrder 4 1 0)))
+  pub later : ¬ IsPartCost several several_asked no_options (part_cost SUBTUNES 20 (InSong (InOrder 4 2 0)))
+  pub first : ¬ IsPartCost several several_asked no_options (part_cost SUBTUNES 20 (InSong (InOrder 2 1 0)))
+  pub one_alone : (bytes : ℕ) (cause : Cause) → ¬ IsToldOf no_options (part_cost SUBTUNES bytes cause)
 
 -- what is told of the song, in this order and no other
 pub record ListIsWorked : Type 0 where

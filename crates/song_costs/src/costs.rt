@@ -14,7 +14,7 @@ ghost use Rattle.song_costs.specs.Kinds.{costs_of, all_bytes};
 use image_parts::{code_length, frequency_bytes, slide_bytes};
 use kept_lines::asked_by;
 use packed_form::{PackedPatternList, PackedSong};
-use player_memory::{shared_size, unread_size};
+use player_memory::{shared_size, unlisted_size, unread_size};
 use song_model::Table;
 
 /// How many bytes a song takes in a packed file, kind by kind.
@@ -22,7 +22,7 @@ use song_model::Table;
 pub struct Costs {
     /// The player's code with its variables and two zeros.
     pub player: u32,
-    /// The orderlists, with two bytes for the address of each.
+    /// The orderlists, with two bytes for the address of each where the song has several subtunes.
     pub orders: u32,
     /// The patterns, with two bytes for the address of each.
     pub patterns: u32,
@@ -97,9 +97,10 @@ pub fn costs_by_kind(packed: &PackedSong, code: &[u8]) -> Costs
     let filter = rows_bytes(&packed.filter);
     let speed = rows_bytes(&packed.speed);
     let slides = slide_bytes(asked_by(packed), packed.speed.as_slice().len() as u32);
+    let orders = packed.size() - patterns - fields - wave - pulse - filter - speed;
     Costs {
         player: code_length(code),
-        orders: packed.size() - patterns - fields - wave - pulse - filter - speed,
+        orders: orders - unlisted_size(packed),
         patterns,
         instruments,
         wave,

@@ -18,7 +18,7 @@ use usage::UsedParts;
 /// How many parts there are beside the one that every image has: those of the features, behind them those of the
 /// options and what several features have in common, then those of the song's facts, and what several facts or features
 /// have in common.
-pub const PARTS: u8 = 57;
+pub const PARTS: u8 = 58;
 
 /// The names of the parts, each at its number, as musicians say them.
 pub const PART_NAMES: [&str; PARTS as usize] = [
@@ -74,6 +74,7 @@ pub const PART_NAMES: [&str; PARTS as usize] = [
     "funk tempo choice",
     "different gate timers",
     "different first waves",
+    "several subtunes",
     "row commands",
     "special wave rows",
     "held gate or envelope",
@@ -95,7 +96,7 @@ pub enum Cause {
 /// What a part of the player costs.
 #[derive(Clone, Copy, Debug, PartialEq, Eq)]
 pub struct PartCost {
-    /// The part, 0 to 56.
+    /// The part, 0 to 57.
     pub part: u8,
     /// Its bytes, from 1 on.
     pub bytes: u32,

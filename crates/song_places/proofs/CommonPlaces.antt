@@ -22,7 +22,7 @@ use Rattle.song_facts.specs.declared.facts.Fact.{Fact}
 use Rattle.song_facts.specs.declared.facts.Fact.TheVariants.{RowTone, RowSlide, RowOnce, FirstMask, Legato, NoHardRestart}
 use Rattle.song_facts.specs.declared.facts.Fact.TheVariants.{WaveDelay, GateNote, NoteVibrato, VibratoDelay, NotePulse, NoteFilter}
 use Rattle.song_facts.specs.declared.facts.Fact.TheVariants.{VoiceTempo, CommonTempo, FunkTurns, FunkChoice}
-use Rattle.song_facts.specs.declared.facts.Fact.TheVariants.{OwnTimer, OwnWave}
+use Rattle.song_facts.specs.declared.facts.Fact.TheVariants.{OwnTimer, OwnWave, Subtunes}
 use Rattle.player_memory.specs.declared.conditions.TheConstants.{SKIP_EFFECTS, CLIMB, FOUND_NOTE}
 use Rattle.player_memory.specs.FactLines.{fact_condition}
 use Rattle.song_places.specs.declared.places.Place.{Place}
@@ -40,31 +40,31 @@ use Rattle.song_places.proofs.WorkedPlaces.{used_pattern}
 -- no feature but two needs bytes of orderlists
 no_byte : (song : Song) (part : ℕ) (feature : Feature) → keeps_part (bit_of Transpose) part ≡ false →
     keeps_part (bit_of Repeat) part ≡ false → keeps_part (bit_of feature) part ≡ true →
-    (b : ℕ) → ¬ (need_of song feature).byte b
-no_byte song part Transpose transposed repeated kept b meant = true≢false (sym kept ∙ transposed)
-no_byte song part Repeat transposed repeated kept b meant = true≢false (sym kept ∙ repeated)
-no_byte song part PortaUp transposed repeated kept b meant = meant
-no_byte song part PortaDown transposed repeated kept b meant = meant
-no_byte song part TonePorta transposed repeated kept b meant = meant
-no_byte song part TieNote transposed repeated kept b meant = meant
-no_byte song part Vibrato transposed repeated kept b meant = meant
-no_byte song part InstrumentVibrato transposed repeated kept b meant = meant
-no_byte song part NoteDependent transposed repeated kept b meant = meant
-no_byte song part SetAd transposed repeated kept b meant = meant
-no_byte song part SetSr transposed repeated kept b meant = meant
-no_byte song part SetWave transposed repeated kept b meant = meant
-no_byte song part SetWavePointer transposed repeated kept b meant = meant
-no_byte song part PulseTable transposed repeated kept b meant = meant
-no_byte song part SetPulsePointer transposed repeated kept b meant = meant
-no_byte song part FilterTable transposed repeated kept b meant = meant
-no_byte song part SetFilterPointer transposed repeated kept b meant = meant
-no_byte song part FilterControl transposed repeated kept b meant = meant
-no_byte song part Cutoff transposed repeated kept b meant = meant
-no_byte song part Volume transposed repeated kept b meant = meant
-no_byte song part FunkTempo transposed repeated kept b meant = meant
-no_byte song part SetTempo transposed repeated kept b meant = meant
-no_byte song part WaveTable transposed repeated kept b meant = meant
-no_byte song part WaveCommand transposed repeated kept b meant = meant
+    (s b : ℕ) → ¬ (need_of song feature).byte s b
+no_byte song part Transpose transposed repeated kept s b meant = true≢false (sym kept ∙ transposed)
+no_byte song part Repeat transposed repeated kept s b meant = true≢false (sym kept ∙ repeated)
+no_byte song part PortaUp transposed repeated kept s b meant = meant
+no_byte song part PortaDown transposed repeated kept s b meant = meant
+no_byte song part TonePorta transposed repeated kept s b meant = meant
+no_byte song part TieNote transposed repeated kept s b meant = meant
+no_byte song part Vibrato transposed repeated kept s b meant = meant
+no_byte song part InstrumentVibrato transposed repeated kept s b meant = meant
+no_byte song part NoteDependent transposed repeated kept s b meant = meant
+no_byte song part SetAd transposed repeated kept s b meant = meant
+no_byte song part SetSr transposed repeated kept s b meant = meant
+no_byte song part SetWave transposed repeated kept s b meant = meant
+no_byte song part SetWavePointer transposed repeated kept s b meant = meant
+no_byte song part PulseTable transposed repeated kept s b meant = meant
+no_byte song part SetPulsePointer transposed repeated kept s b meant = meant
+no_byte song part FilterTable transposed repeated kept s b meant = meant
+no_byte song part SetFilterPointer transposed repeated kept s b meant = meant
+no_byte song part FilterControl transposed repeated kept s b meant = meant
+no_byte song part Cutoff transposed repeated kept s b meant = meant
+no_byte song part Volume transposed repeated kept s b meant = meant
+no_byte song part FunkTempo transposed repeated kept s b meant = meant
+no_byte song part SetTempo transposed repeated kept s b meant = meant
+no_byte song part WaveTable transposed repeated kept s b meant = meant
+no_byte song part WaveCommand transposed repeated kept s b meant = meant
 
 -- and none a row that rests
 no_rest : (song : Song) (feature : Feature) → ¬ (need_of song feature).row rest_row
@@ -94,9 +94,11 @@ no_rest song SetTempo meant = (let e = meant.0 in omega arith)
 no_rest song WaveTable meant = meant.1 refl
 no_rest song WaveCommand meant = meant
 
--- no fact needs bytes of orderlists, nor a row that rests
-no_fact_byte : (song : Song) (fact : Fact) (b : ℕ) → ¬ (need_of_fact song fact).byte b
-no_fact_byte song fact b meant = meant
+-- no fact but that of several subtunes needs bytes of orderlists, and none a row that rests
+no_fact_byte : (song : Song) (part : ℕ) (fact : Fact) → keeps_part (fact_condition Subtunes) part ≡ false →
+    keeps_part (fact_condition fact) part ≡ true → (s b : ℕ) → ¬ (need_of_fact song fact).byte s b
+no_fact_byte song part Subtunes several kept s b meant = true≢false (sym kept ∙ several)
+no_fact_byte song part fact several kept s b meant = meant
 
 no_fact_rest : (song : Song) (fact : Fact) → ¬ (need_of_fact song fact).row rest_row
 no_fact_rest song RowTone meant = omega (arith, meant)
@@ -116,16 +118,18 @@ no_fact_rest song FunkTurns meant = (let is = meant.0 in omega (arith, is))
 no_fact_rest song FunkChoice meant = omega (arith, meant)
 no_fact_rest song OwnTimer meant = meant
 no_fact_rest song OwnWave meant = meant
+no_fact_rest song Subtunes meant = meant
 no_fact_rest song GateNote (inl off) = omega (arith, off)
 no_fact_rest song GateNote (inr on) = omega (arith, on)
 
 -- what stands in an orderlist, or in a pattern, where a part is needed
 byte_needed : (song : Song) (part s c i : ℕ) → keeps_part (bit_of Transpose) part ≡ false →
-    keeps_part (bit_of Repeat) part ≡ false → ¬ NeedsFor song part (InOrder s c i)
-byte_needed song part s c i transposed repeated (inl h) =
-    (let at = h.needs in no_byte song part h.feature transposed repeated h.is_kept at.byte at.is_meant)
-byte_needed song part s c i transposed repeated (inr h) =
-    (let at = h.needs in no_fact_byte song h.fact at.byte at.is_meant)
+    keeps_part (bit_of Repeat) part ≡ false → keeps_part (fact_condition Subtunes) part ≡ false →
+    ¬ NeedsFor song part (InOrder s c i)
+byte_needed song part s c i transposed repeated several (inl h) =
+    (let at = h.needs in no_byte song part h.feature transposed repeated h.is_kept s at.byte at.is_meant)
+byte_needed song part s c i transposed repeated several (inr h) =
+    (let at = h.needs in no_fact_byte song part h.fact several h.is_kept s at.byte at.is_meant)
 
 pattern_used : (song : Song) (part p i : ℕ) → NeedsFor song part (InPattern p i) → IsUsedPattern song p
 pattern_used song part p i (inl h) = (let at = h.needs in at.used)
@@ -174,12 +178,12 @@ is_reached song WaveCommand kept r meant = absurd meant
 
 -- where the first used pattern begins with a rest, nothing that a part may need comes before its second row
 pub second_row : (song : Song) (part p : ℕ) → keeps_part (bit_of Transpose) part ≡ false →
-    keeps_part (bit_of Repeat) part ≡ false →
+    keeps_part (bit_of Repeat) part ≡ false → keeps_part (fact_condition Subtunes) part ≡ false →
     ((q : ℕ) → IsUsedPattern song q → p ≤ q) → slice_get (pattern_at song p) 0 ≡ Some rest_row →
     (other : Place) → NeedsFor song part other → IsNotAfter (InPattern p 1) other
-second_row song part p transposed repeated first_used rests (InOrder s c i) h =
-    absurd (byte_needed song part s c i transposed repeated h)
-second_row song part p transposed repeated first_used rests (InPattern q i) h =
+second_row song part p transposed repeated several first_used rests (InOrder s c i) h =
+    absurd (byte_needed song part s c i transposed repeated several h)
+second_row song part p transposed repeated several first_used rests (InPattern q i) h =
     elim (cases_order p q) [
       | inl same ↦
           in_first i (subst (λ (n : ℕ). IsNotAfter (InPattern p 1) (InPattern n i)) same)
@@ -196,15 +200,16 @@ second_row song part p transposed repeated first_used rests (InPattern q i) h =
     in_first zero from other = absurd (other refl)
     in_first (suc zero) from other = from (begun (2 ∷ p ∷ 1 ∷ []) []).is
     in_first (suc (suc i)) from other = from (lower (2 ∷ p ∷ []) 1 (suc (suc i)) [] [] (omega arith)).is
-second_row song part p transposed repeated first_used rests (InInstrument n) h = refl
-second_row song part p transposed repeated first_used rests (InWaveTable n) h = refl
+second_row song part p transposed repeated several first_used rests (InInstrument n) h = refl
+second_row song part p transposed repeated several first_used rests (InWaveTable n) h = refl
 
 -- of the song whose first used pattern is 1
 pub crossing_first : (part : ℕ) → keeps_part (bit_of Transpose) part ≡ false → keeps_part (bit_of Repeat) part ≡ false →
-    NeedsFor crossing part (InPattern 1 1) → IsPartPlace crossing part (InPattern 1 1)
+    keeps_part (fact_condition Subtunes) part ≡ false → NeedsFor crossing part (InPattern 1 1) →
+    IsPartPlace crossing part (InPattern 1 1)
 unfolding pattern_at
-crossing_first part transposed repeated needs =
-    record { is_such = needs; first = second_row crossing part 1 transposed repeated from_one refl }
+crossing_first part transposed repeated several needs =
+    record { is_such = needs; first = second_row crossing part 1 transposed repeated several from_one refl }
   where
     from_one : (q : ℕ) → IsUsedPattern crossing q → 1 ≤ q
     from_one q used = elim (used_pattern q used) [ inl e ↦ omega (arith, e) | inr e ↦ omega (arith, e) ]
@@ -309,13 +314,14 @@ no_fact_reaches FunkTurns = refl
 no_fact_reaches FunkChoice = refl
 no_fact_reaches OwnTimer = refl
 no_fact_reaches OwnWave = refl
+no_fact_reaches Subtunes = refl
 
 none_in_zero : (i : ℕ) → ¬ NeedsFor (sliding 1 3) FOUND_NOTE (InPattern 0 i)
 none_in_zero i (inl h) = no_note_in_zero h.feature i h.is_kept h.needs
 none_in_zero i (inr h) = true≢false (sym h.is_kept ∙ no_fact_reaches h.fact)
 
 note_first : (other : Place) → NeedsFor (sliding 1 3) FOUND_NOTE other → IsNotAfter (InPattern 1 0) other
-note_first (InOrder s c i) h = absurd (byte_needed (sliding 1 3) FOUND_NOTE s c i refl refl h)
+note_first (InOrder s c i) h = absurd (byte_needed (sliding 1 3) FOUND_NOTE s c i refl refl refl h)
 note_first (InPattern zero i) h = absurd (none_in_zero i h)
 note_first (InPattern (suc zero) zero) h = refl
 note_first (InPattern (suc zero) (suc i)) h = (lower (2 ∷ 1 ∷ []) 0 (suc i) [] [] (omega arith)).is
@@ -338,7 +344,7 @@ climb : (one two : ℕ) → NeedsFor (sliding one two) CLIMB (InPattern 0 1) →
 unfolding pattern_at
 climb one two needs = record {
   is_such = needs;
-  first = second_row (sliding one two) CLIMB 0 refl refl (λ q used. omega arith) refl;
+  first = second_row (sliding one two) CLIMB 0 refl refl refl (λ q used. omega arith) refl;
 }
 
 tone_needs : NeedsFor (sliding 3 1) CLIMB (InPattern 0 1)

@@ -94,12 +94,12 @@ crossing_filter = record {
 
 -- ---- rows
 
-second : (one two part : ℕ) → keeps_part 0 part ≡ false → keeps_part 1 part ≡ false →
+second : (one two part : ℕ) → keeps_part 0 part ≡ false → keeps_part 1 part ≡ false → keeps_part 52 part ≡ false →
     NeedsFor (sliding one two) part (InPattern 0 1) → IsPartPlace (sliding one two) part (InPattern 0 1)
 unfolding pattern_at
-second one two part transposed repeated needs = record {
+second one two part transposed repeated several needs = record {
   is_such = needs;
-  first = second_row (sliding one two) part 0 transposed repeated (λ q used. omega arith) refl;
+  first = second_row (sliding one two) part 0 transposed repeated several (λ q used. omega arith) refl;
 }
 
 cutoff_needs : NeedsFor (sliding 0xC 0xB) FILTER_USED (InPattern 0 1)
@@ -223,7 +223,7 @@ pub filter_places_are_worked : FilterPlacesAreWorked
 unfolding pattern_at
 filter_places_are_worked = record {
   program = crossing_filter;
-  cutoff_first = second 0xC 0xB FILTER_USED refl refl cutoff_needs;
+  cutoff_first = second 0xC 0xB FILTER_USED refl refl refl cutoff_needs;
   control_later = inl (record {
     feature = FilterControl;
     is_kept = refl;
@@ -234,7 +234,7 @@ filter_places_are_worked = record {
     | inl f ↦ no_filter f.feature (sets (bit_of f.feature) f.is_kept) f.needs
     | inr f ↦ no_fact_sets f.fact (sets (fact_condition f.fact) f.is_kept)
   ];
-  tone_first = second 3 1 EFFECTS refl refl tone_needs;
+  tone_first = second 3 1 EFFECTS refl refl refl tone_needs;
   slide_later = inl (record {
     feature = PortaUp;
     is_kept = refl;

@@ -10,6 +10,7 @@ mod MarkedPlaces
 mod SongPlaces
 -- Features, facts and places.
 mod FeaturePlaces
+mod SeveralSubtunes
 mod FactPlaces
 mod OnePlace
 -- Parts and their places.

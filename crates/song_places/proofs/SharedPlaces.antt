@@ -58,7 +58,7 @@ command : (one two : ℕ) → NeedsFor (sliding one two) ROW_COMMAND (InPattern 
 unfolding pattern_at
 command one two needs = record {
   is_such = needs;
-  first = second_row (sliding one two) ROW_COMMAND 0 refl refl (λ q used. omega arith) refl;
+  first = second_row (sliding one two) ROW_COMMAND 0 refl refl refl (λ q used. omega arith) refl;
 }
 
 no_slide_in_zero : ¬ NeedsFactAt (sliding 5 1) RowSlide (InPattern 0 1)

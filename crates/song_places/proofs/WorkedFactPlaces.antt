@@ -1,22 +1,29 @@
 -- First places of facts, worked out by hand.
-use Rattle.std.proofs.Common.{◌≡◌, ℕ, zero, suc, [], ◌∷◌, Some, refl, sym, subst, inl, inr, arith}
+use Rattle.std.proofs.Common.{◌≡◌, ℕ, zero, suc, ◌<◌, ◌≤◌, ◌≢◌, [], ◌∷◌, true, Some, slice_get, lit≤}
+use Rattle.std.proofs.Common.{refl, sym, subst, inl, inr, arith}
 use Rattle.base.proofs.Laws.{same_some}
 use Rattle.song_model.specs.declared.rows.Row.{Row}
-use Rattle.song_model.specs.LookUp.{pattern_at, instrument_at}
+use Rattle.song_model.specs.declared.orders.Order.{Order}
+use Rattle.song_model.specs.declared.orders.Subtune.{Subtune}
+use Rattle.song_model.specs.LookUp.{pattern_at, instrument_at, is_playable_subtune, order_of}
 use Rattle.song_model.specs.Silence.{rest_row}
 use Rattle.play_model.specs.Used.{IsUsedPattern, IsUsedInstrument}
-use Rattle.play_model.specs.WorkedSongs.{row}
+use Rattle.play_model.specs.Playable.{HasOrder}
+use Rattle.play_model.specs.WorkedSongs.{row, subtune}
 use Rattle.song_facts.specs.declared.facts.Fact.TheVariants.{RowSlide, FirstMask, GateNote, NoteFilter}
-use Rattle.song_facts.specs.declared.facts.Fact.TheVariants.{OwnTimer, OwnWave}
+use Rattle.song_facts.specs.declared.facts.Fact.TheVariants.{OwnTimer, OwnWave, Subtunes}
 use Rattle.song_facts.specs.Facts.{IsGateNote}
 use Rattle.player_memory.specs.declared.conditions.TheConstants.{ROW_SLIDE}
 use Rattle.song_places.specs.declared.places.Place.{Place}
 use Rattle.song_places.specs.declared.places.Place.TheVariants.{InOrder, InPattern, InInstrument, InWaveTable}
 use Rattle.song_places.specs.Places.{NeedsFactAt, IsNotAfter, IsFirstFactPlace}
-use Rattle.song_places.specs.WorkedPlaces.{crossing, GateNotesAreWorked, FactsAreWorked, PairsAreWorked}
+use Rattle.song_places.specs.WorkedPlaces.{crossing, several, GateNotesAreWorked, FactsAreWorked, PairsAreWorked}
+use Rattle.song_places.specs.WorkedPlaces.{SubtunesAreWorked}
+use Rattle.song_places.specs.Needs.{IsBehindPlayable}
 use Rattle.song_places.proofs.Ranks.{lower}
 use Rattle.song_places.proofs.KeptParts.{fact_places_are_first}
 use Rattle.song_places.proofs.WorkedPlaces.{used_pattern, played_one, played_two, used_three, not_two, other_used}
+use Rattle.song_places.proofs.SeveralSubtunes.{several_from}
 use Rattle.song_places.proofs.CommonPlaces.{crossing_first}
 
 -- ---- keyoff and keyon
@@ -87,7 +94,7 @@ slid = record { used = played_one; row = row 0xBD 0 1 0; there = refl; is_meant 
 slide_first : IsFirstFactPlace crossing RowSlide (InPattern 1 1)
 slide_first =
     (fact_places_are_first crossing RowSlide (InPattern 1 1)).0
-    (crossing_first ROW_SLIDE refl refl (inr (record { fact = RowSlide; is_kept = refl; needs = slid })))
+    (crossing_first ROW_SLIDE refl refl refl (inr (record { fact = RowSlide; is_kept = refl; needs = slid })))
 
 masked : NeedsFactAt crossing FirstMask (InInstrument 1)
 unfolding instrument_at
@@ -179,4 +186,92 @@ pairs_are_worked = record {
   no_first_wave = λ song at. at.is_meant refl;
   other_wave = record { used = other_used; is_meant = λ e. omega (arith, e) };
   same_timer = λ at. at.is_meant refl;
+}
+
+-- ---- several subtunes
+
+fourth : Subtune
+fourth = subtune (1 ∷ 1 ∷ []) (1 ∷ []) (1 ∷ [])
+
+behind_second : IsBehindPlayable several 4
+behind_second = record {
+  before = 1;
+  is_before = omega arith;
+  subtune = subtune (1 ∷ []) (1 ∷ []) (1 ∷ []);
+  there = refl;
+  playable = refl;
+}
+
+order_fourth : (c : ℕ) → 1 ≤ c → c ≤ 3 → HasOrder several 4 c (order_of c fourth)
+unfolding fourth
+order_fourth c low high = record {
+  subtune = fourth;
+  stored = record { first = lit≤ tt; last = lit≤ tt };
+  subtune_is = refl;
+  playable = refl;
+  is_channel = record { first = low; last = high };
+  order_is = refl;
+}
+
+given_at : (c i : ℕ) → 1 ≤ c → c ≤ 3 → slice_get (order_of c fourth).entries i ≡ Some 1 →
+    NeedsFactAt several Subtunes (InOrder 4 c i)
+given_at c i low high there = record {
+  order = order_of c fourth;
+  has = order_fourth c low high;
+  byte = 1;
+  there = there;
+  is_meant = behind_second;
+}
+
+given_first : NeedsFactAt several Subtunes (InOrder 4 1 0)
+unfolding fourth
+given_first = given_at 1 0 (lit≤ tt) (lit≤ tt) refl
+
+-- the first subtune and the third can't be played
+none_in_third : (c : ℕ) (order : Order) → ¬ HasOrder several 3 c order
+none_in_third c order has =
+    let same = same_some _ has.subtune has.subtune_is in
+    let playable = has.playable in
+    absurd (let no = rw (sym same) at playable in cc)
+
+none_before_second : ¬ IsBehindPlayable several 2
+none_before_second h =
+    let is_before = h.is_before in
+    none h.before h.subtune (omega (arith, is_before)) h.there h.playable
+  where
+    none : (before : ℕ) (one : Subtune) → before < 1 → slice_get several.subtunes before ≡ Some one →
+        is_playable_subtune one ≢ true
+    none zero one few there playable =
+        let same = same_some _ one there in absurd (let no = rw (sym same) at playable in cc)
+    none (suc before) one few there playable = omega (arith, few)
+
+subtunes_first : (other : Place) → NeedsFactAt several Subtunes other → IsNotAfter (InOrder 4 1 0) other
+subtunes_first (InOrder zero c i) at = absurd (let low = at.has.stored.first in omega (arith, low))
+subtunes_first (InOrder (suc zero) c i) at = absurd (let low = at.is_meant.is_before in omega (arith, low))
+subtunes_first (InOrder (suc (suc zero)) c i) at = absurd (none_before_second at.is_meant)
+subtunes_first (InOrder (suc (suc (suc zero))) c i) at = absurd (none_in_third c at.order at.has)
+subtunes_first (InOrder (suc (suc (suc (suc zero)))) zero i) at =
+    absurd (let low = at.has.is_channel.first in omega (arith, low))
+subtunes_first (InOrder (suc (suc (suc (suc zero)))) (suc zero) zero) at = refl
+subtunes_first (InOrder (suc (suc (suc (suc zero)))) (suc zero) (suc i)) at =
+    (lower (1 ∷ 4 ∷ 1 ∷ []) 0 (suc i) [] [] (omega arith)).is
+subtunes_first (InOrder (suc (suc (suc (suc zero)))) (suc (suc c)) i) at =
+    (lower (1 ∷ 4 ∷ []) 1 (suc (suc c)) (0 ∷ []) (i ∷ []) (omega arith)).is
+subtunes_first (InOrder (suc (suc (suc (suc (suc s))))) c i) at =
+    absurd (let high = at.has.stored.last in omega (arith, high))
+subtunes_first (InPattern p i) at = refl
+subtunes_first (InInstrument n) at = refl
+subtunes_first (InWaveTable p) at = refl
+
+pub subtunes_are_worked : SubtunesAreWorked
+unfolding fourth
+subtunes_are_worked = record {
+  first = record { is_such = given_first; first = subtunes_first };
+  next_byte = given_at 1 1 (lit≤ tt) (lit≤ tt) refl;
+  not_next_byte = λ first. (let e = first.first (InOrder 4 1 0) given_first in cc);
+  next_order = given_at 2 0 (lit≤ tt) (lit≤ tt) refl;
+  not_next_order = λ first. (let e = first.first (InOrder 4 1 0) given_first in cc);
+  first_subtune = λ at. none_before_second at.is_meant;
+  unplayable = λ at. none_in_third 1 at.order at.has;
+  one_alone = λ place at. (let more = several_from crossing place at in omega (arith, more));
 }

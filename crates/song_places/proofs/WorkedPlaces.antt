@@ -179,12 +179,12 @@ used_three = inr (record {
 
 -- ---- where nothing is needed
 
-pub no_bytes : (song : Song) (need : Need) → ((b : ℕ) → ¬ need.byte b) → IsNowhereUnder song need (1 ∷ [])
+pub no_bytes : (song : Song) (need : Need) → ((s b : ℕ) → ¬ need.byte s b) → IsNowhereUnder song need (1 ∷ [])
 no_bytes song need none =
     none_on song need (1 ∷ []) (inner_kind 1) (λ s. none_on song need (1 ∷ s ∷ []) (inner_subtune s)
     (λ c. none_on song need (1 ∷ s ∷ c ∷ []) (inner_order s c) (λ i place such.
-    (let at : HasByteAt song s c i need.byte =
-    subst (IsNeededAt song need) (order_place s c i place such.under) such.needed in none at.byte at.is_meant))))
+    (let at : HasByteAt song s c i (need.byte s) =
+    subst (IsNeededAt song need) (order_place s c i place such.under) such.needed in none s at.byte at.is_meant))))
 
 pub no_rows : (need : Need) → ((r : Row) → Fields r → ¬ need.row r) → IsNowhereUnder crossing need (2 ∷ [])
 no_rows need none = none_on crossing need (2 ∷ []) (inner_kind 2) (λ p. no_pattern crossing need p (λ i at.
@@ -296,7 +296,7 @@ pub portamentos_are_worked : PortamentosAreWorked
 unfolding portamentos table_row
 portamentos_are_worked = record {
   first = first_as crossing (NeedsAt crossing PortaUp) portamentos (InPattern 1 1) (λ place. (λ h. h, λ h. h))
-      (first_in_patterns crossing portamentos (InPattern 1 1) (no_bytes crossing portamentos (λ b h. h))
+      (first_in_patterns crossing portamentos (InPattern 1 1) (no_bytes crossing portamentos (λ s b h. h))
       (first_on crossing portamentos (2 ∷ []) 1 (InPattern 1 1) (inner_kind 2) before_pattern
       (first_on crossing portamentos (2 ∷ 1 ∷ []) 1 (InPattern 1 1) (inner_pattern 1) before_row
       (alone crossing portamentos (InPattern 1 1) risen))));
@@ -380,19 +380,19 @@ pub tables_are_worked : TablesAreWorked
 unfolding filters waves commands table_row
 tables_are_worked = record {
   first = first_as crossing (NeedsAt crossing FilterTable) filters (InInstrument 3) (λ place. (λ h. h, λ h. h))
-      (first_in_instruments crossing filters (InInstrument 3) (no_bytes crossing filters (λ b h. h))
+      (first_in_instruments crossing filters (InInstrument 3) (no_bytes crossing filters (λ s b h. h))
       (no_rows filters no_filter_row)
       (first_on crossing filters (3 ∷ []) 3 (InInstrument 3) (inner_kind 3) before_instrument
       (alone crossing filters (InInstrument 3) filtered)));
   unused = λ at. not_two at.used;
   no_row = λ at. no_filter_row at.row (used_row 1 1 at.row at.used at.there) at.is_meant;
   wave = first_as crossing (NeedsAt crossing WaveTable) waves (InInstrument 1) (λ place. (λ h. h, λ h. h))
-      (first_in_instruments crossing waves (InInstrument 1) (no_bytes crossing waves (λ b h. h))
+      (first_in_instruments crossing waves (InInstrument 1) (no_bytes crossing waves (λ s b h. h))
       (no_rows waves no_wave_row)
       (first_on crossing waves (3 ∷ []) 1 (InInstrument 1) (inner_kind 3) before_first
       (alone crossing waves (InInstrument 1) waved)));
   command = first_as crossing (NeedsAt crossing WaveCommand) commands (InWaveTable 2) (λ place. (λ h. h, λ h. h))
-      (first_in_waves crossing commands (InWaveTable 2) (no_bytes crossing commands (λ b h. h))
+      (first_in_waves crossing commands (InWaveTable 2) (no_bytes crossing commands (λ s b h. h))
       (no_rows commands (λ r f h. h)) (no_instruments commands (λ n h. h))
       (first_on crossing commands (4 ∷ []) 2 (InWaveTable 2) (inner_kind 4) before_wave_row
       (alone crossing commands (InWaveTable 2) commanded)));
@@ -460,7 +460,7 @@ pub vibratos_are_worked : VibratosAreWorked
 unfolding trembling vibratos instrument_at
 vibratos_are_worked = record {
   first = first_as trembling (NeedsAt trembling InstrumentVibrato) vibratos (InInstrument 2) (λ place. (λ h. h, λ h. h))
-      (first_in_instruments trembling vibratos (InInstrument 2) (no_bytes trembling vibratos (λ b h. h))
+      (first_in_instruments trembling vibratos (InInstrument 2) (no_bytes trembling vibratos (λ s b h. h))
       (none_on trembling vibratos (2 ∷ []) (inner_kind 2) (λ p. no_pattern trembling vibratos p (λ i at. at.is_meant)))
       (first_on trembling vibratos (3 ∷ []) 2 (InInstrument 2) (inner_kind 3) before_vibrato
       (alone trembling vibratos (InInstrument 2) trembled)));

@@ -8,7 +8,7 @@ use Rattle.song_model.specs.LookUp.{zero_instrument}
 use Rattle.song_model.specs.Silence.{empty_song, rest_row}
 use Rattle.play_model.specs.WorkedSongs.{subtune, row, sides, other_vibrato}
 use Rattle.song_facts.specs.declared.facts.Fact.TheVariants.{RowSlide, FirstMask, GateNote, NotePulse, NoteFilter}
-use Rattle.song_facts.specs.declared.facts.Fact.TheVariants.{OwnTimer, OwnWave}
+use Rattle.song_facts.specs.declared.facts.Fact.TheVariants.{OwnTimer, OwnWave, Subtunes}
 use Rattle.player_memory.specs.declared.conditions.TheConstants.{PORTA_UP, SKIP_EFFECTS, CLIMB, FOUND_NOTE, ROW_SLIDE}
 use Rattle.player_memory.specs.declared.conditions.TheConstants.{ROW_COMMAND, SPECIAL_ROW, EFFECTS, FILTER_USED}
 use Rattle.song_places.specs.declared.places.Place.{Place}
@@ -99,6 +99,26 @@ pub record PairsAreWorked : Type 0 where
   pub no_first_wave : (song : Song) → ¬ NeedsFactAt song OwnWave (InInstrument 1)
   pub other_wave : NeedsFactAt (other_vibrato 5) OwnWave (InInstrument 2)
   pub same_timer : ¬ NeedsFactAt (other_vibrato 5) OwnTimer (InInstrument 2)
+
+-- the second of these subtunes and the fourth can be played
+abbrev pub several : Song
+several = record crossing {
+  subtunes = subtune (0xE1 ∷ 0 ∷ []) [] (0 ∷ []) ∷ subtune (1 ∷ []) (1 ∷ []) (1 ∷ [])
+      ∷ subtune (1 ∷ []) (1 ∷ []) [] ∷ subtune (1 ∷ 1 ∷ []) (1 ∷ []) (1 ∷ []) ∷ [];
+}
+
+-- There are several subtunes from the first byte on of the second one that can be played; its next byte and its next
+-- orderlist are later. The first one that can be played gives no such fact, nor does one that can't be; and where one
+-- alone can be played, nothing does.
+pub record SubtunesAreWorked : Type 0 where
+  pub first : IsFirstFactPlace several Subtunes (InOrder 4 1 0)
+  pub next_byte : NeedsFactAt several Subtunes (InOrder 4 1 1)
+  pub not_next_byte : ¬ IsFirstFactPlace several Subtunes (InOrder 4 1 1)
+  pub next_order : NeedsFactAt several Subtunes (InOrder 4 2 0)
+  pub not_next_order : ¬ IsFirstFactPlace several Subtunes (InOrder 4 2 0)
+  pub first_subtune : ¬ NeedsFactAt several Subtunes (InOrder 2 1 0)
+  pub unplayable : ¬ NeedsFactAt several Subtunes (InOrder 3 1 0)
+  pub one_alone : (place : Place) → ¬ NeedsFactAt crossing Subtunes place
 
 -- ---- what features have in common
 

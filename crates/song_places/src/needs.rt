@@ -6,7 +6,7 @@ ghost use Rattle.song_model.specs.declared.tables.TableName.TheVariants.{Speed};
 ghost use Rattle.song_model.specs.LookUp.{speed_row};
 ghost use Rattle.play_model.specs.Features.{IsAny, HasFeature};
 ghost use Rattle.song_places.specs.declared.places.Place.{Place};
-ghost use Rattle.song_places.specs.Needs.{Points, GivesFact};
+ghost use Rattle.song_places.specs.Needs.{Points, GivesFact, IsBehindPlayable, OrdersGiveFact};
 ghost use Rattle.song_places.specs.Places.{IsNeededAt, NeedsAt};
 ghost use Rattle.song_places.specs.Search.{IsParameter, meant};
 
@@ -89,6 +89,18 @@ fn gives_fact(song: &Song, fact: Fact, instrument: &Instrument) -> bool
     }
 }
 
+/// Whether the bytes of a subtune's orderlists give the song the fact, where the subtune is `behind` another that can
+/// be played, or isn't.
+fn orders_give_fact(fact: Fact, behind: bool) -> bool
+    ensures { (song : AnySong) → (s : ℕ) → (IsTrue behind ↔ IsBehindPlayable song s) →
+        IsTrue result ↔ OrdersGiveFact song fact s }
+{
+    match fact {
+        Fact::Subtunes => behind,
+        _ => false,
+    }
+}
+
 impl Wanted {
     /// What a feature needs, in a song that uses it.
     pub(crate) fn of(feature: Feature) -> Wanted
@@ -123,12 +135,14 @@ impl Wanted {
         }
     }
 
-    /// Whether a byte of an orderlist is wanted.
-    pub(crate) fn is_byte(self, byte: u8) -> bool
-        ensures { (song : AnySong) → IsTrue result ↔ (meant song self).byte byte }
+    /// Whether a byte of an orderlist is wanted, of a subtune that is `behind` another that can be played, or isn't.
+    pub(crate) fn is_byte(self, behind: bool, byte: u8) -> bool
+        ensures { (song : AnySong) → (s : ℕ) → (IsTrue behind ↔ IsBehindPlayable song s) →
+            IsTrue result ↔ (meant song self).byte s byte }
     {
         match self {
             Wanted::Bytes(from, to) => from <= byte && byte <= to,
+            Wanted::OfFact(fact) => orders_give_fact(fact, behind),
             _ => false,
         }
     }
