@@ -10,4 +10,4 @@ pub use Rattle.image_parts.proofs.Bounds.{code_is_short, code_is_bounded, images
 pub use Rattle.image_parts.proofs.Rest.{rest_is_exact, rest_is_bounded}
 -- what is read of a packed song, and what stands in front of its frequencies
 pub use Rattle.image_parts.proofs.ReadBytes.{unread_most, unread_is, shared_most, shared_is, front_is, read_is, read_most}
-pub use Rattle.image_parts.proofs.ReadBytes.{speeds_are_read}
+pub use Rattle.image_parts.proofs.ReadBytes.{unlisted_is, speeds_are_read}

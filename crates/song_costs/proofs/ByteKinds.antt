@@ -1,5 +1,5 @@
 -- The kinds of a packed song have the bytes that its song says.
-use Rattle.std.proofs.Common.{◌≡◌, ℕ, ◌+◌, ◌-◌, ◌*◌, ◌≤◌, Bool, if◌then◌else◌, List, [], ◌∷◌, map, length, refl, sym}
+use Rattle.std.proofs.Common.{◌≡◌, ℕ, ◌+◌, ◌-◌, ◌*◌, ◌≤◌, List, [], ◌∷◌, map, length, refl, sym}
 use Rattle.std.proofs.Common.{◌∙◌, ap, arith}
 use Rattle.std.specs.List.{filter, sum_by}
 use Rattle.std.proofs.lemmas.List.{length-map, length-append}
@@ -13,7 +13,6 @@ use Rattle.song_model.specs.LookUp.{instrument_at, playable_subtunes}
 use Rattle.play_model.specs.declared.options.Options.{Options}
 use Rattle.packed_form.specs.declared.packed_songs.PackedSong.{PackedSong}
 use Rattle.packed_form.specs.Sizes.{list_size, subtune_size, packed_song_size}
-use Rattle.player_memory.specs.declared.conditions.TheConstants.{SUBTUNES}
 use Rattle.player_memory.specs.SongLists.{shared_size, unread_size, unlisted_size}
 use Rattle.packing_rules.specs.Segments.{ProgramTable, numbers, row_of, keeps}
 use Rattle.packing_rules.specs.ProgramMaps.{retargeted}
@@ -22,10 +21,9 @@ use Rattle.packing_rules.specs.Renumbering.{program_rows, program_number, table_
 use Rattle.packing_rules.specs.Renumbering.{pulse_programs, filter_programs}
 use Rattle.packing_rules.specs.SongSizes.{order_size, orders_size, rows_size}
 use Rattle.kept_lines.specs.Asked.{asked_by}
-use Rattle.kept_lines.proofs.Laws.{asked_is_exact}
 use Rattle.image_parts.specs.CodeParts.{code_length}
 use Rattle.image_parts.specs.Lengths.{slide_bytes, shared_bytes, unread_bytes, unlisted_bytes, read_of, frequency_bytes}
-use Rattle.image_parts.proofs.Laws.{shared_is, unread_is, read_is}
+use Rattle.image_parts.proofs.Laws.{shared_is, unread_is, unlisted_is, read_is}
 use Rattle.player_memory.proofs.Laws.{unread_few, unlisted_few}
 use Rattle.player_memory.proofs.Laws as player_memory
 use Rattle.song_pack.specs.Packed.{order_byte, order_bytes, packed_subtune, passing_numbers, packed_instrument, IsPacked}
@@ -116,12 +114,6 @@ same_costs : {r r' o o' p p' i i' w w' u u' f f' s s' n n' : ℕ} → r ≡ r' �
       frequencies = n';
     })
 same_costs a b c d e f g h i = rw (a, b, c, d, e, f, g, h, i) refl
-
--- the song's facts say whether the addresses of orderlists are listed
-unlisted_is : (packed : PackedSong) → unlisted_bytes (asked_by packed) (length packed.subtunes) ≡ unlisted_size packed
-unlisted_is packed =
-    ap (λ (z : Bool). if z then 0 else 6 * length packed.subtunes)
-    (asked_is_exact packed.features.0 packed.facts SUBTUNES)
 
 -- those that are in no list are bytes of the orderlists
 pub unlisted_within : (packed : PackedSong) → unlisted_size packed ≤ sum_by subtune_size packed.subtunes
