@@ -1,13 +1,15 @@
 -- Facts that are worked by hand.
 use Rattle.std.proofs.Common.{◌≡◌, ℕ, ◌↔◌, true, List, [], ◌∷◌, Contains}
 use Rattle.std.proofs.Common.{inl, inr, refl, sym, ◌∙◌, ap, subst, arith}
+use Rattle.std.specs.Prelude.{slice_index_or}
+use Rattle.std.proofs.lemmas.List.Elements.{All-nil, All-cons, All-contains}
 use Rattle.song_model.specs.declared.rows.Row.{Row}
 use Rattle.song_model.specs.declared.orders.Order.{Order}
 use Rattle.song_model.specs.declared.orders.Subtune.{Subtune}
 use Rattle.song_model.specs.declared.instruments.Instrument.{Instrument}
 use Rattle.song_model.specs.declared.tables.TableName.TheVariants.{Wave}
 use Rattle.song_model.specs.declared.songs.Song.{Song}
-use Rattle.song_model.specs.LookUp.{playable_subtunes, instrument_at, table_row, pattern_at}
+use Rattle.song_model.specs.LookUp.{playable_subtunes, order_of, instrument_at, table_row, pattern_at}
 use Rattle.song_model.specs.Silence.{empty_song}
 use Rattle.play_model.specs.Used.{IsPlayedOrder, IsUsedRow, IsUsedInstrument}
 use Rattle.play_model.specs.Reached.{IsReached, IsPlayedPointer, of_instrument, of_row, played, pointed, led}
@@ -16,8 +18,9 @@ use Rattle.song_facts.specs.declared.facts.Fact.{Fact}
 use Rattle.song_facts.specs.declared.facts.Fact.TheVariants.{RowTone, RowSlide, RowOnce, FirstMask, Legato, NoHardRestart}
 use Rattle.song_facts.specs.declared.facts.Fact.TheVariants.{WaveDelay, GateNote, NoteVibrato, VibratoDelay, NotePulse, NoteFilter}
 use Rattle.song_facts.specs.declared.facts.Fact.TheVariants.{VoiceTempo, CommonTempo, FunkTurns, FunkChoice}
-use Rattle.song_facts.specs.declared.facts.Fact.TheVariants.{OwnTimer, OwnWave, Subtunes}
-use Rattle.song_facts.specs.Facts.{IsMask, is_among, no_facts, HasSuchRow, HasSuchInstrument, HasSuchPair, HasFact}
+use Rattle.song_facts.specs.declared.facts.Fact.TheVariants.{OwnTimer, OwnWave, Subtunes, VoiceTwo, VoiceThree}
+use Rattle.song_facts.specs.Facts.{IsMask, IsHeard, is_among, no_facts, HasSuchRow, HasChannelRow, HasSuchInstrument}
+use Rattle.song_facts.specs.Facts.{HasSuchPair, HasFact}
 use Rattle.song_facts.specs.WorkedFacts.{RowsAreTold, InstrumentsAreTold, SongsAreTold, SetsAreTold, wave_of, two_of}
 
 pub rows_are_told : RowsAreTold
@@ -33,6 +36,11 @@ rows_are_told = record {
   key_off = inl refl;
   key_on = inr refl;
   rest = λ e. elim e [ inl off ↦ omega (arith, off) | inr on ↦ omega (arith, on) ];
+  first_note = inl (omega arith, omega arith);
+  last_note = inl (omega arith, omega arith);
+  command = inr (λ e. omega (arith, e));
+  heard_no_rest = λ e. elim e [ inl note ↦ (let high = note.1 in omega (arith, high)) | inr command ↦ command refl ];
+  heard_no_key = λ e. elim e [ inl note ↦ (let high = note.1 in omega (arith, high)) | inr command ↦ command refl ];
   voice_tempo = (refl, omega arith);
   no_voice_tempo = λ e. (let high = e.1 in omega arith);
   other_voice_tempo = λ e. (let is = e.0 in omega arith);
@@ -183,8 +191,44 @@ none_reached song none zero_is p (played pointer) = no_pointer song none zero_is
 none_reached song none zero_is p (pointed r reached pointer) = none_reached song none zero_is r reached
 none_reached song none zero_is p (led q reached goes) = none_reached song none zero_is q reached
 
+no_channel_row : (song : Song) (channel : ℕ) → playable_subtunes song ≡ [] → ¬ HasChannelRow song channel IsHeard
+no_channel_row song channel none has =
+    nowhere has.subtune (subst (λ (all : List Subtune). Contains all has.subtune) none has.playable)
+  where
+    nowhere : (subtune : Subtune) → ¬ Contains [] subtune
+    nowhere subtune (k, inside, at) = omega (arith, inside)
+
+-- where a channel plays the rest alone of the song of one note, it has nothing to play
+rest_not_heard : (song : Song) (channel : ℕ) (subtune : Subtune) → song.patterns ≡ one_note.patterns →
+    playable_subtunes song ≡ subtune ∷ [] → (order_of channel subtune).entries ≡ 1 ∷ [] →
+    ¬ HasChannelRow song channel IsHeard
+unfolding pattern_at
+rest_not_heard song channel subtune same alone rest has =
+    only (λ r. ¬ IsHeard r) (row 0xBD 0 0 0) has.row still
+    (subst (λ (rows : List Row). Contains rows has.row)
+    (ap (λ (patterns : List (List Row)). slice_index_or patterns has.pattern []) same
+    ∙ ap (λ (n : ℕ). slice_index_or one_note.patterns n []) first) has.has) has.is_such
+  where
+    only : {X : Type 0} (P : X → Type 0) (one item : X) → P one → Contains (one ∷ []) item → P item
+    only P one item holds has = All-contains P (one ∷ []) item (All-cons P one [] holds (All-nil P)) has
+
+    here : has.subtune ≡ subtune
+    here =
+        only (λ s. s ≡ subtune) subtune has.subtune refl
+        (subst (λ (all : List Subtune). Contains all has.subtune) alone has.playable)
+
+    first : has.pattern ≡ 1
+    first =
+        only (λ n. n ≡ 1) 1 has.pattern refl
+        (subst (λ (entries : List ℕ). Contains entries has.pattern)
+        (ap (λ (s : Subtune). (order_of channel s).entries) here ∙ rest) has.entry)
+
+    still : ¬ IsHeard (row 0xBD 0 0 0)
+    still (inl note) = (let high = note.1 in omega (arith, high))
+    still (inr command) = command refl
+
 pub songs_are_told : SongsAreTold
-unfolding instrument_at table_row
+unfolding instrument_at table_row pattern_at
 songs_are_told = record {
   tone = record { row = row 0x90 1 3 0; used = first_used (row 0x90 1 3 0); is_such = refl };
   slide = record { row = row 0x90 1 4 0; used = first_used (row 0x90 1 4 0); is_such = (omega arith, omega arith) };
@@ -229,6 +273,26 @@ songs_are_told = record {
     differ = λ e. omega (arith, e);
   };
   subtunes = omega arith;
+  two = record {
+    subtune = _;
+    playable = (0, omega arith, refl);
+    pattern = 0;
+    entry = (1, omega arith, refl);
+    is_pattern = omega arith;
+    row = row 0x90 1 0 0;
+    has = (0, omega arith, refl);
+    is_such = inl (omega arith, omega arith);
+  };
+  three = record {
+    subtune = _;
+    playable = (0, omega arith, refl);
+    pattern = 0;
+    entry = (0, omega arith, refl);
+    is_pattern = omega arith;
+    row = row 0x90 1 0 0;
+    has = (0, omega arith, refl);
+    is_such = inl (omega arith, omega arith);
+  };
   not_played = λ has. no_such_row _ refl _ has;
   not_named = λ has. plain (such_first _ refl IsMask has);
   not_reached = λ has. none_reached _ refl refl has.p has.reached;
@@ -236,6 +300,9 @@ songs_are_told = record {
   wave_not_named = λ has. no_pair _ refl _ (λ differ. differ refl) has;
   one_subtune = λ more. omega (arith, more);
   one_playable = λ more. omega (arith, more);
+  not_two = λ has. rest_not_heard _ 2 _ refl refl refl has;
+  not_three = λ has. rest_not_heard _ 3 _ refl refl refl has;
+  two_not_playable = λ has. rest_not_heard _ 2 _ refl refl refl has;
 }
   where
     plain : ¬ IsMask plucked
@@ -265,6 +332,8 @@ fact_of_empty FunkChoice has = absurd (no_such_row empty_song refl _ has)
 fact_of_empty OwnTimer has = absurd (no_pair empty_song refl _ (λ differ. differ refl) has)
 fact_of_empty OwnWave has = absurd (no_pair empty_song refl _ (λ differ. differ refl) has)
 fact_of_empty Subtunes has = absurd (omega (arith, has))
+fact_of_empty VoiceTwo has = absurd (no_channel_row empty_song 2 refl has)
+fact_of_empty VoiceThree has = absurd (no_channel_row empty_song 3 refl has)
 
 other : (fact : Fact) → ¬ (fact ≡ FirstMask) → ¬ HasFact empty_song fact
 other fact not has = not (fact_of_empty fact has)
@@ -293,6 +362,8 @@ empty_has FunkChoice = (λ on. absurd cc, λ has. absurd (other FunkChoice (λ e
 empty_has OwnTimer = (λ on. absurd cc, λ has. absurd (other OwnTimer (λ e. cc) has))
 empty_has OwnWave = (λ on. absurd cc, λ has. absurd (other OwnWave (λ e. cc) has))
 empty_has Subtunes = (λ on. absurd cc, λ has. absurd (other Subtunes (λ e. cc) has))
+empty_has VoiceTwo = (λ on. absurd cc, λ has. absurd (other VoiceTwo (λ e. cc) has))
+empty_has VoiceThree = (λ on. absurd cc, λ has. absurd (other VoiceThree (λ e. cc) has))
 
 pub sets_are_told : SetsAreTold
 sets_are_told = record {

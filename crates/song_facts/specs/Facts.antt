@@ -1,13 +1,16 @@
 -- Facts of a song: what of all that it uses has a kind that a player may do without where there is none, in what two of
--- its instruments differ, and whether it has several subtunes. This is this project's profile of the GoatTracker 2
--- readme's rows, instruments, wave table and subtunes.
+-- its instruments differ, whether it has several subtunes, and which of its channels have something to play. This is this
+-- project's profile of the GoatTracker 2 readme's rows, instruments, wave table, subtunes and channels.
 use Rattle.std.specs.Prelude.{◌≡◌, ◌≢◌, ℕ, ◌%◌, ◌<◌, ◌≤◌, ◌⊎◌, ◌↔◌, Bool, true, false, bit_and, length}
+use Rattle.std.specs.Prelude.{Contains}
 use Rattle.song_model.specs.declared.rows.Row.{Row}
 use Rattle.song_model.specs.declared.instruments.Instrument.{Instrument}
+use Rattle.song_model.specs.declared.orders.Subtune.{Subtune}
 use Rattle.song_model.specs.declared.tables.TableRow.{TableRow}
 use Rattle.song_model.specs.declared.tables.TableName.TheVariants.{Wave}
 use Rattle.song_model.specs.declared.songs.Song.{Song}
-use Rattle.song_model.specs.LookUp.{table_row, instrument_at, playable_subtunes}
+use Rattle.song_model.specs.LookUp.{table_row, pattern_at, order_of, instrument_at, playable_subtunes}
+use Rattle.song_model.specs.Endless.{IsPatternByte}
 use Rattle.play_model.specs.Used.{IsUsedRow, IsUsedInstrument}
 use Rattle.play_model.specs.Reached.{IsReached}
 use Rattle.song_facts.specs.declared.facts.Fact.{Fact}
@@ -15,7 +18,7 @@ use Rattle.song_facts.specs.declared.facts.Facts.{Facts}
 use Rattle.song_facts.specs.declared.facts.Fact.TheVariants.{RowTone, RowSlide, RowOnce, FirstMask, Legato, NoHardRestart}
 use Rattle.song_facts.specs.declared.facts.Fact.TheVariants.{WaveDelay, GateNote, NoteVibrato, VibratoDelay, NotePulse, NoteFilter}
 use Rattle.song_facts.specs.declared.facts.Fact.TheVariants.{VoiceTempo, CommonTempo, FunkTurns, FunkChoice}
-use Rattle.song_facts.specs.declared.facts.Fact.TheVariants.{OwnTimer, OwnWave, Subtunes}
+use Rattle.song_facts.specs.declared.facts.Fact.TheVariants.{OwnTimer, OwnWave, Subtunes, VoiceTwo, VoiceThree}
 
 -- the number of a fact
 abbrev pub number_of : Fact → ℕ
@@ -38,6 +41,8 @@ number_of FunkChoice = 15
 number_of OwnTimer = 16
 number_of OwnWave = 17
 number_of Subtunes = 18
+number_of VoiceTwo = 19
+number_of VoiceThree = 20
 
 -- ---- rows of patterns
 
@@ -71,6 +76,10 @@ IsFunkChoice row = row.command ≡ 0xE
 -- $BE is keyoff, $BF keyon
 abbrev pub IsGateNote : Row → Type 0
 IsGateNote row = (row.note ≡ 0xBE) ⊎ (row.note ≡ 0xBF)
+
+-- a note is $60 to $BC; a row with one, or with a command, is one that its voice has to play
+abbrev pub IsHeard : Row → Type 0
+IsHeard row = ((0x60 ≤ row.note) × (row.note ≤ 0xBC)) ⊎ (row.command ≢ 0)
 
 -- ---- instruments
 
@@ -143,6 +152,8 @@ IsOfRow FunkChoice = IsFunkChoice
 IsOfRow OwnTimer = λ row. ⊥
 IsOfRow OwnWave = λ row. ⊥
 IsOfRow Subtunes = λ row. ⊥
+IsOfRow VoiceTwo = λ row. ⊥
+IsOfRow VoiceThree = λ row. ⊥
 
 -- an instrument
 abbrev pub IsOfInstrument : Fact → Instrument → Type 0
@@ -165,6 +176,8 @@ IsOfInstrument FunkChoice = λ i. ⊥
 IsOfInstrument OwnTimer = λ i. ⊥
 IsOfInstrument OwnWave = λ i. ⊥
 IsOfInstrument Subtunes = λ i. ⊥
+IsOfInstrument VoiceTwo = λ i. ⊥
+IsOfInstrument VoiceThree = λ i. ⊥
 
 -- two instruments
 abbrev pub IsOfPair : Fact → Instrument → Instrument → Type 0
@@ -187,6 +200,8 @@ IsOfPair FunkChoice = λ one other. ⊥
 IsOfPair OwnTimer = DifferInTimer
 IsOfPair OwnWave = DifferInWave
 IsOfPair Subtunes = λ one other. ⊥
+IsOfPair VoiceTwo = λ one other. ⊥
+IsOfPair VoiceThree = λ one other. ⊥
 
 -- a row of the wave table
 abbrev pub IsOfWaveRow : Fact → TableRow → Type 0
@@ -209,6 +224,8 @@ IsOfWaveRow FunkChoice = λ row. ⊥
 IsOfWaveRow OwnTimer = λ row. ⊥
 IsOfWaveRow OwnWave = λ row. ⊥
 IsOfWaveRow Subtunes = λ row. ⊥
+IsOfWaveRow VoiceTwo = λ row. ⊥
+IsOfWaveRow VoiceThree = λ row. ⊥
 
 -- ---- songs
 
@@ -216,6 +233,17 @@ IsOfWaveRow Subtunes = λ row. ⊥
 pub record HasSuchRow (song : Song) (IsSuch : Row → Type 0) : Type 0 where
   pub row : Row
   pub used : IsUsedRow song row
+  pub is_such : IsSuch row
+
+-- a row of a pattern that an orderlist of this channel names is such, in a subtune that can be played
+pub record HasChannelRow (song : Song) (channel : ℕ) (IsSuch : Row → Type 0) : Type 0 where
+  pub subtune : Subtune
+  pub playable : Contains (playable_subtunes song) subtune
+  pub pattern : ℕ
+  pub entry : Contains (order_of channel subtune).entries pattern
+  pub is_pattern : IsPatternByte pattern
+  pub row : Row
+  pub has : Contains (pattern_at song pattern) row
   pub is_such : IsSuch row
 
 -- a used instrument is such; each voice begins with instrument 1, stored or not
@@ -263,6 +291,8 @@ HasFact song FunkChoice = HasSuchRow song IsFunkChoice
 HasFact song OwnTimer = HasSuchPair song DifferInTimer
 HasFact song OwnWave = HasSuchPair song DifferInWave
 HasFact song Subtunes = HasSubtunes song
+HasFact song VoiceTwo = HasChannelRow song 2 IsHeard
+HasFact song VoiceThree = HasChannelRow song 3 IsHeard
 
 -- whether a fact is among these
 abbrev pub is_among : Facts → Fact → Bool
@@ -285,6 +315,8 @@ is_among facts FunkChoice = facts.funk_choice
 is_among facts OwnTimer = facts.own_timer
 is_among facts OwnWave = facts.own_wave
 is_among facts Subtunes = facts.subtunes
+is_among facts VoiceTwo = facts.voice_two
+is_among facts VoiceThree = facts.voice_three
 
 -- these are the song's facts: those that it has, and no others
 pub record AreFacts (song : Song) (facts : Facts) : Type 0 where
@@ -316,6 +348,8 @@ no_facts = record {
   own_timer = false;
   own_wave = false;
   subtunes = false;
+  voice_two = false;
+  voice_three = false;
 }
 
 -- of one that has all
@@ -340,4 +374,6 @@ all_facts = record {
   own_timer = true;
   own_wave = true;
   subtunes = true;
+  voice_two = true;
+  voice_three = true;
 }

@@ -8,10 +8,10 @@ use Rattle.play_model.specs.WorkedSongs.{subtune, row, sides, plucked, one_note,
 use Rattle.song_facts.specs.declared.facts.Fact.TheVariants.{RowTone, RowSlide, RowOnce, FirstMask, Legato, NoHardRestart}
 use Rattle.song_facts.specs.declared.facts.Fact.TheVariants.{WaveDelay, GateNote, NoteVibrato, VibratoDelay, NotePulse, NoteFilter}
 use Rattle.song_facts.specs.declared.facts.Fact.TheVariants.{VoiceTempo, CommonTempo, FunkTurns, FunkChoice}
-use Rattle.song_facts.specs.declared.facts.Fact.TheVariants.{OwnTimer, OwnWave, Subtunes}
+use Rattle.song_facts.specs.declared.facts.Fact.TheVariants.{OwnTimer, OwnWave, Subtunes, VoiceTwo, VoiceThree}
 use Rattle.song_facts.specs.Facts.{IsTone, IsSlide, IsOnce, IsGateNote, IsMask, IsLegato, KeepsEnvelope, IsDelay}
 use Rattle.song_facts.specs.Facts.{HasVibrato, HasVibratoDelay, HasPulse, HasFilter, DifferInTimer, DifferInWave}
-use Rattle.song_facts.specs.Facts.{IsVoiceTempo, IsCommonTempo, IsFunkTurns, IsFunkChoice}
+use Rattle.song_facts.specs.Facts.{IsVoiceTempo, IsCommonTempo, IsFunkTurns, IsFunkChoice, IsHeard}
 use Rattle.song_facts.specs.Facts.{HasFact, AreFacts, AddsNoFact, no_facts}
 
 -- each kind of row at its edges
@@ -27,6 +27,11 @@ pub record RowsAreTold : Type 0 where
   pub key_off : IsGateNote (row 0xBE 0 0 0)
   pub key_on : IsGateNote (row 0xBF 0 0 0)
   pub rest : ¬ IsGateNote (row 0xBD 0 0 0)
+  pub first_note : IsHeard (row 0x60 0 0 0)
+  pub last_note : IsHeard (row 0xBC 0 0 0)
+  pub command : IsHeard (row 0xBD 0 1 0)
+  pub heard_no_rest : ¬ IsHeard (row 0xBD 1 0 5)
+  pub heard_no_key : ¬ IsHeard (row 0xBE 1 0 0)
   pub voice_tempo : IsVoiceTempo (row 0x90 1 0xF 0x80)
   pub no_voice_tempo : ¬ IsVoiceTempo (row 0x90 1 0xF 0x7F)
   pub other_voice_tempo : ¬ IsVoiceTempo (row 0x90 1 0xE 0x80)
@@ -87,9 +92,13 @@ two_of one other = record (with_rows (row 0x90 2 0 0 ∷ []) one_note) { instrum
 abbrev pub subtunes_of : List Subtune → Song
 subtunes_of others = record one_note { subtunes = subtune (0 ∷ []) (1 ∷ []) (1 ∷ []) ∷ others }
 
+-- the song of one note, in pattern 0, and of a rest, in pattern 1, with these orderlists of its channels
+abbrev pub channels_of : List ℕ → List ℕ → List ℕ → Song
+channels_of one two three = record one_note { subtunes = subtune one two three ∷ [] }
+
 -- A song has a fact where something that it uses is such. A pattern that no orderlist names, an instrument that no row
 -- names and a row of the wave table that no program comes to give it none. Nor does a subtune that can't be played, for
--- one of its orderlists is empty.
+-- one of its orderlists is empty. A channel has something to play where its own orderlists name the note.
 pub record SongsAreTold : Type 0 where
   pub tone : HasFact (song_of 0x90 3) RowTone
   pub slide : HasFact (song_of 0x90 4) RowSlide
@@ -110,6 +119,8 @@ pub record SongsAreTold : Type 0 where
   pub timers : HasFact (two_of plucked (record plucked { gate_timer = 3 })) OwnTimer
   pub waves : HasFact (two_of plucked (record plucked { first_wave = 0x41 })) OwnWave
   pub subtunes : HasFact (subtunes_of (subtune (1 ∷ []) (0 ∷ []) (1 ∷ []) ∷ [])) Subtunes
+  pub two : HasFact (channels_of (1 ∷ []) (1 ∷ 0 ∷ []) (1 ∷ [])) VoiceTwo
+  pub three : HasFact (channels_of (1 ∷ []) (1 ∷ []) (0 ∷ [])) VoiceThree
   pub not_played : ¬ HasFact (record empty_song { patterns = (row 0xBE 0 3 0 ∷ []) ∷ [] }) GateNote
   pub not_named : ¬ HasFact (record empty_song { instruments = plucked ∷ record plucked { first_wave = 0 } ∷ [] }) FirstMask
   pub not_reached : ¬ HasFact (record empty_song { wave = sides 0x0F 0 ∷ [] }) WaveDelay
@@ -117,6 +128,9 @@ pub record SongsAreTold : Type 0 where
   pub wave_not_named : ¬ HasFact (record empty_song { instruments = plucked ∷ record plucked { first_wave = 0 } ∷ [] }) OwnWave
   pub one_subtune : ¬ HasFact (subtunes_of []) Subtunes
   pub one_playable : ¬ HasFact (subtunes_of (subtune (1 ∷ []) (0 ∷ []) [] ∷ [])) Subtunes
+  pub not_two : ¬ HasFact (channels_of (0 ∷ []) (1 ∷ []) (0 ∷ [])) VoiceTwo
+  pub not_three : ¬ HasFact (channels_of (0 ∷ []) (0 ∷ []) (1 ∷ [])) VoiceThree
+  pub two_not_playable : ¬ HasFact (subtunes_of (subtune (1 ∷ []) (0 ∷ []) [] ∷ [])) VoiceTwo
 
 -- A song that uses nothing begins with an instrument that isn't stored, whose first waveform is 0: that one fact is its
 -- own, and it has neither none, nor another, nor one more. A song adds a fact to another where that hasn't it.

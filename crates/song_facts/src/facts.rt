@@ -1,12 +1,20 @@
 //! Facts of a song.
 
 ghost use Rattle.std.specs.Prelude.{◌≡◌, ◌↔◌, IsTrue};
+ghost use Rattle.song_facts.specs.Facts.{IsHeard};
 
 use song_model::{Instrument, Row, TableRow};
 
+/// Whether a row has a note, `$60` to `$BC`, or a command: its voice has something to play.
+pub fn is_heard(row: Row) -> bool
+    ensures { IsTrue result ↔ IsHeard row }
+{
+    (0x60..=0xbc).contains(&row.note) || row.command != 0
+}
+
 /// What a song has beside its features, of all that it uses: rows of its patterns, its instruments and the rows of its
-/// wave table; and whether it has several subtunes. The player leaves out what it does for a fact where a song hasn't
-/// it.
+/// wave table; whether it has several subtunes; and which channels have something to play. The player leaves out what it
+/// does for a fact where a song hasn't it.
 #[derive(Clone, Copy, Debug, PartialEq, Eq)]
 pub enum Fact {
     /// A row has command 3, which slides to its note.
@@ -48,12 +56,16 @@ pub enum Fact {
     OwnWave,
     /// There are two subtunes, or more, that can be played.
     Subtunes,
+    /// Channel 2 has a row to play that has a note or a command.
+    VoiceTwo,
+    /// So has channel 3.
+    VoiceThree,
 }
 
 impl Fact {
     ghost use Rattle.song_facts.specs.Facts.{number_of, IsOfRow, IsOfInstrument, IsOfPair, IsOfWaveRow};
 
-    /// The fact's number, 0 to 18.
+    /// The fact's number, 0 to 20.
     pub fn number(self) -> u8
         ensures { result ≡ number_of self }
     {
@@ -154,6 +166,10 @@ pub struct Facts {
     pub own_wave: bool,
     /// [`Fact::Subtunes`].
     pub subtunes: bool,
+    /// [`Fact::VoiceTwo`].
+    pub voice_two: bool,
+    /// [`Fact::VoiceThree`].
+    pub voice_three: bool,
 }
 
 impl Facts {
@@ -183,6 +199,8 @@ impl Facts {
             Fact::OwnTimer => self.own_timer,
             Fact::OwnWave => self.own_wave,
             Fact::Subtunes => self.subtunes,
+            Fact::VoiceTwo => self.voice_two,
+            Fact::VoiceThree => self.voice_three,
         }
     }
 }

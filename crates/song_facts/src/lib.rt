@@ -1,5 +1,6 @@
 //! Facts of a song beside its features: what its rows, instruments and wave programs have, in what two of its
-//! instruments differ, and whether it has several subtunes, so that a player may leave out what no song like it needs.
+//! instruments differ, whether it has several subtunes, and which of its channels have something to play, so that a player
+//! may leave out what no song like it needs.
 //!
 //! The layer's one contract: it says of each fact which songs have it (`HasFact`), and which set of facts is a song's
 //! (`AreFacts`). Its code tells whether a row, an instrument or two of them give a song a fact; `usage`
@@ -12,4 +13,4 @@
 pub mod claims;
 mod facts;
 
-pub use facts::{Fact, Facts};
+pub use facts::{Fact, Facts, is_heard};

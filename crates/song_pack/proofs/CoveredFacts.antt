@@ -1,27 +1,31 @@
 -- A song under new numbers has no fact that the song that it was made of hasn't.
 use Rattle.std.proofs.Common.{◌≡◌, ◌≢◌, ℕ, ◌%◌, ◌<◌, ◌≤◌, ◌⊎◌, length, refl, sym, ◌∙◌, ap, subst}
+use Rattle.std.proofs.Common.{Contains, inl, inr, lit≤}
 use Rattle.std.specs.Prelude.{bit_and}
 use Rattle.std.proofs.lemmas.List.{length-map}
 use Rattle.song_model.specs.declared.rows.Row.{Row}
+use Rattle.song_model.specs.declared.orders.Order.{Order}
 use Rattle.song_model.specs.declared.instruments.Instrument.{Instrument}
 use Rattle.song_model.specs.declared.tables.TableRow.{TableRow}
 use Rattle.song_model.specs.declared.tables.TableName.{TableName}
 use Rattle.song_model.specs.declared.tables.TableName.TheVariants.{Wave, Pulse, Filter, Speed}
 use Rattle.song_model.specs.declared.songs.Song.{Song}
-use Rattle.song_model.specs.LookUp.{table_row, instrument_at, playable_subtunes}
+use Rattle.song_model.specs.LookUp.{table_row, order_of, instrument_at, playable_subtunes}
 use Rattle.song_model.specs.Pointers.{instrument_pointer, command_table}
-use Rattle.play_model.specs.Used.{IsUsedInstrument}
+use Rattle.play_model.specs.Used.{IsChannel, IsUsedInstrument}
 use Rattle.same_frames.specs.Maps.{Maps, moved_row, moved_pointer, IsRowFor, IsInstrumentFor}
 use Rattle.song_facts.specs.declared.facts.Fact.TheVariants.{RowTone, RowSlide, RowOnce, FirstMask, Legato, NoHardRestart}
 use Rattle.song_facts.specs.declared.facts.Fact.TheVariants.{WaveDelay, GateNote, NoteVibrato, VibratoDelay, NotePulse, NoteFilter}
 use Rattle.song_facts.specs.declared.facts.Fact.TheVariants.{VoiceTempo, CommonTempo, FunkTurns, FunkChoice}
-use Rattle.song_facts.specs.declared.facts.Fact.TheVariants.{OwnTimer, OwnWave, Subtunes}
-use Rattle.song_facts.specs.Facts.{IsTone, IsSlide, IsOnce, IsGateNote, IsMask, IsLegato, KeepsEnvelope}
+use Rattle.song_facts.specs.declared.facts.Fact.TheVariants.{OwnTimer, OwnWave, Subtunes, VoiceTwo, VoiceThree}
+use Rattle.song_facts.specs.Facts.{IsTone, IsSlide, IsOnce, IsGateNote, IsHeard, IsMask, IsLegato, KeepsEnvelope}
 use Rattle.song_facts.specs.Facts.{HasVibratoDelay, timer_of, IsVoiceTempo, IsCommonTempo, IsFunkTurns, IsFunkChoice}
-use Rattle.song_facts.specs.Facts.{HasSuchRow, HasSuchInstrument, HasSuchPair, HasSuchWaveRow, AddsNoFact}
-use Rattle.same_frames.specs.OrderLaws.{moved_subtune}
-use Rattle.same_frames.proofs.Laws.{old_some}
-use Rattle.song_pack.proofs.UsedParts.{IsMoved, under, used_row_from, instrument_from, pointer_moved, reached_from}
+use Rattle.song_facts.specs.Facts.{HasSuchRow, HasChannelRow, HasSuchInstrument, HasSuchPair, HasSuchWaveRow}
+use Rattle.song_facts.specs.Facts.{AddsNoFact}
+use Rattle.same_frames.specs.OrderLaws.{moved_order, moved_subtune}
+use Rattle.same_frames.proofs.Laws.{channel_moved, old_some}
+use Rattle.song_pack.proofs.UsedParts.{IsMoved, under, channel_played, subtune_from, order_row_from}
+use Rattle.song_pack.proofs.UsedParts.{used_row_from, instrument_from, pointer_moved, reached_from}
 
 module _ (maps : Maps) where
   -- ---- what a part's stand-in tells of the part
@@ -48,6 +52,11 @@ module _ (maps : Maps) where
       is.param (λ none. let e : 0 ≡ 0xF = sym none ∙ command in cc)
       ∙ ap (λ (c : ℕ). moved_pointer maps (command_table c) row.param) command in
       (command, subst IsSuch param such.1)
+
+  heard_keeps : RowsKeep IsHeard
+  unfolding RowsKeep
+  heard_keeps last row other is (inl note) = inl (note_keeps (λ n. (0x60 ≤ n) × (n ≤ 0xBC)) last row other is note)
+  heard_keeps last row other is (inr command) = inr (command_keeps (λ c. c ≢ 0) last row other is command)
 
   -- where the other instrument is such, so is the one that it stands for
   InstrumentsKeep : (Instrument → Type 0) → Type 0
@@ -77,6 +86,30 @@ module _ (maps : Maps) where
           row = from.from;
           used = from.used;
           is_such = keeps from.last from.from has.row from.is_for has.is_such;
+        }
+
+    -- a row of a pattern that a channel plays
+    channel_covered : (channel : ℕ) → IsChannel channel → (IsSuch : Row → Type 0) → RowsKeep IsSuch →
+        HasChannelRow other channel IsSuch → HasChannelRow song channel IsSuch
+    unfolding RowsKeep
+    channel_covered channel is IsSuch keeps has =
+        let subtune = subtune_from maps song other m has.subtune has.playable in
+        let order : Order = order_of channel subtune.from in
+        let order_is : order_of channel has.subtune ≡ moved_order maps order =
+        sym (ap (order_of channel) subtune.is) ∙ channel_moved maps subtune.from channel in
+        let found = order_row_from maps song other m order (channel_played song subtune.from channel subtune.has is)
+        has.pattern (subst (λ (o : Order). Contains o.entries has.pattern) order_is has.entry) has.is_pattern
+        has.row has.has in
+        let row = found.row in
+        record {
+          subtune = subtune.from;
+          playable = subtune.has;
+          pattern = found.pattern;
+          entry = found.names.0;
+          is_pattern = found.names.1;
+          row = row.from;
+          has = row.has;
+          is_such = keeps row.last row.from has.row row.is_for has.is_such;
         }
 
     -- a used instrument
@@ -174,3 +207,5 @@ module _ (maps : Maps) where
     covered OwnTimer has = pair_covered timer_of (λ n. gate_timer_keeps (λ t. t % 64 ≡ n)) has
     covered OwnWave has = pair_covered (λ i. i.first_wave) (λ n. first_wave_keeps (λ w. w ≡ n)) has
     covered Subtunes has = subst (λ (n : ℕ). 1 < n) as_many_playable has
+    covered VoiceTwo has = channel_covered 2 (record { first = lit≤ tt; last = lit≤ tt }) IsHeard heard_keeps has
+    covered VoiceThree has = channel_covered 3 (record { first = lit≤ tt; last = lit≤ tt }) IsHeard heard_keeps has

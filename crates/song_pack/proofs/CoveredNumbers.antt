@@ -24,7 +24,7 @@ use Rattle.asked_numbers.specs.Range.{AddsNoNumber}
 use Rattle.same_frames.specs.Maps.{Maps, moved_pointer, moved_row}
 use Rattle.same_frames.specs.OrderLaws.{moved_byte, moved_order}
 use Rattle.same_frames.proofs.Laws.{image_of, low_byte, high_byte, row_under}
-use Rattle.song_pack.proofs.UsedParts.{IsMoved, under, order_from, named_from, named_used, pattern_row_from}
+use Rattle.song_pack.proofs.UsedParts.{IsMoved, under, order_from, named_used, order_row_from}
 use Rattle.song_pack.proofs.UsedParts.{used_row_from, reached_from, pointer_from}
 
 -- ---- rows of the wave table
@@ -65,21 +65,15 @@ module _ (maps : Maps) (song other : Song) (m : IsMoved maps song other) where
   played_covered : (note : ℕ) → IsPlayedNote other note → IsPlayedNote song note
   played_covered note p =
       let order = order_from maps song other m p.order p.played in
-      let named = named_from maps order.from p.pattern
-      (subst (λ (o : Order). Contains o.entries p.pattern) (sym order.is) p.entry) p.is_pattern in
-      let row = pattern_row_from maps song other m p.pattern
-      (record {
-        old = named.old;
-        is_such = named_used song order.from named.old order.played named.is_such;
-        new = named.new;
-      })
-      p.row p.has in
+      let found = order_row_from maps song other m order.from order.played p.pattern
+      (subst (λ (o : Order). Contains o.entries p.pattern) (sym order.is) p.entry) p.is_pattern p.row p.has in
+      let row = found.row in
       record {
         order = order.from;
         played = order.played;
-        pattern = named.old;
-        entry = named.is_such.0;
-        is_pattern = named.is_such.1;
+        pattern = found.pattern;
+        entry = found.names.0;
+        is_pattern = found.names.1;
         row = row.from;
         has = row.has;
         plays = subst (λ (n : ℕ). is_note n ≡ true) row.is_for.note p.plays;

@@ -21,8 +21,8 @@ use Rattle.play_model.specs.Playable.{IsPlayable}
 use Rattle.same_frames.specs.Maps.{Maps, moved_pointer, named_after, IsRowFor, AreRowsFor, IsInstrumentFor}
 use Rattle.same_frames.specs.Agreement.{Agrees}
 use Rattle.same_frames.specs.OrderLaws.{moved_byte, moved_order, moved_subtune}
-use Rattle.same_frames.proofs.Laws.{IsUnder, StandsForOne, image_of, channel_moved, low_byte, high_byte, old_some}
-use Rattle.same_frames.proofs.Laws.{wave_pointer_from, led_from}
+use Rattle.same_frames.proofs.Laws.{IsUnder, StandsForOne, IsImage, image_of, channel_moved, low_byte, high_byte}
+use Rattle.same_frames.proofs.Laws.{old_some, wave_pointer_from, led_from}
 
 -- ---- the other song
 
@@ -53,6 +53,13 @@ channel_played song subtune channel has is = record {
   order_is = refl;
 }
 
+-- a subtune of the other song that can be played was one of the song
+pub subtune_from : (maps : Maps) (song other : Song) → IsMoved maps song other → (subtune : Subtune) →
+    Contains (playable_subtunes other) subtune → IsImage (moved_subtune maps) (playable_subtunes song) subtune
+subtune_from maps song other m subtune has =
+    image_of (moved_subtune maps) (playable_subtunes song) subtune
+    (subst (λ (all : List Subtune). Contains all subtune) m.subtunes has)
+
 -- an orderlist that the other song plays was one of the song
 pub record IsMovedOrder (maps : Maps) (song : Song) (order : Order) : Type 0 where
   pub from : Order
@@ -62,8 +69,7 @@ pub record IsMovedOrder (maps : Maps) (song : Song) (order : Order) : Type 0 whe
 pub order_from : (maps : Maps) (song other : Song) → IsMoved maps song other → (order : Order) →
     IsPlayedOrder other order → IsMovedOrder maps song order
 order_from maps song other m order is =
-    let image = image_of (moved_subtune maps) (playable_subtunes song) is.subtune
-    (subst (λ (all : List Subtune). Contains all is.subtune) m.subtunes is.playable) in
+    let image = subtune_from maps song other m is.subtune is.playable in
     record {
       from = order_of is.channel image.from;
       played = record {
@@ -83,7 +89,7 @@ abbrev pub NamesPattern : Order → ℕ → Type 0
 NamesPattern order n = Contains order.entries n × IsPatternByte n
 
 -- a pattern that an orderlist under new numbers names
-pub named_from : (maps : Maps) (order : Order) (n : ℕ) → Contains (moved_order maps order).entries n →
+named_from : (maps : Maps) (order : Order) (n : ℕ) → Contains (moved_order maps order).entries n →
     IsPatternByte n → StandsForOne maps.pattern (NamesPattern order) n
 named_from maps order n entry small =
     let image = image_of (moved_byte maps) order.entries n entry in
@@ -106,17 +112,22 @@ named_used song order n is_played named = record {
   is_pattern = named.1;
 }
 
+-- what an orderlist under new numbers names stands for a used pattern
+abbrev used_from : (maps : Maps) (song : Song) (order : Order) (n : ℕ) → IsPlayedOrder song order →
+    StandsForOne maps.pattern (NamesPattern order) n → StandsForOne maps.pattern (IsUsedPattern song) n
+used_from maps song order n is_played named = record {
+  old = named.old;
+  is_such = named_used song order named.old is_played named.is_such;
+  new = named.new;
+}
+
 pub pattern_from : (maps : Maps) (song other : Song) → IsMoved maps song other → (n : ℕ) → IsUsedPattern other n →
     StandsForOne maps.pattern (IsUsedPattern song) n
 pattern_from maps song other m n used =
     let order = order_from maps song other m used.byte.order used.byte.played in
-    let named = named_from maps order.from n
-    (subst (λ (o : Order). Contains o.entries n) (sym order.is) used.byte.entry) used.is_pattern in
-    record {
-      old = named.old;
-      is_such = named_used song order.from named.old order.played named.is_such;
-      new = named.new;
-    }
+    used_from maps song order.from n order.played
+    (named_from maps order.from n
+    (subst (λ (o : Order). Contains o.entries n) (sym order.is) used.byte.entry) used.is_pattern)
 
 -- ---- rows
 
@@ -184,7 +195,7 @@ unfolding UsedRows
 rows_used song n used row has = record { pattern = n; used = used; has = has }
 
 -- a row of a pattern that stands for a used one
-pub pattern_row_from : (maps : Maps) (song other : Song) → IsMoved maps song other → (n : ℕ) →
+pattern_row_from : (maps : Maps) (song other : Song) → IsMoved maps song other → (n : ℕ) →
     (pattern : StandsForOne maps.pattern (IsUsedPattern song) n) → (row : Row) → Contains (pattern_at other n) row →
     IsMovedRow maps song (pattern_at song pattern.old) row
 unfolding UsedRows
@@ -193,6 +204,23 @@ pattern_row_from maps song other m n pattern row has =
     (rows_used song pattern.old pattern.is_such) (λ some. absurd (some refl))
     (subst (λ (k : ℕ). AreRowsFor maps 0 (pattern_at song pattern.old) (pattern_at other k)) pattern.new
     (m.agrees.patterns pattern.old pattern.is_such).each) row has
+
+-- a row of a pattern that an orderlist under new numbers names
+pub record IsMovedOrderRow (maps : Maps) (song : Song) (order : Order) (other : Row) : Type 0 where
+  pub pattern : ℕ
+  pub names : NamesPattern order pattern
+  pub row : IsMovedRow maps song (pattern_at song pattern) other
+
+pub order_row_from : (maps : Maps) (song other : Song) → IsMoved maps song other → (order : Order) →
+    IsPlayedOrder song order → (n : ℕ) → Contains (moved_order maps order).entries n → IsPatternByte n →
+    (row : Row) → Contains (pattern_at other n) row → IsMovedOrderRow maps song order row
+order_row_from maps song other m order is_played n entry small row has =
+    let named = named_from maps order n entry small in
+    record {
+      pattern = named.old;
+      names = named.is_such;
+      row = pattern_row_from maps song other m n (used_from maps song order n is_played named) row has;
+    }
 
 pub used_row_from : (maps : Maps) (song other : Song) → IsMoved maps song other → (row : Row) → IsUsedRow other row →
     IsMovedUsedRow maps song row

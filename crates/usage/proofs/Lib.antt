@@ -17,6 +17,7 @@ mod Refusals
 -- Features and facts.
 mod FeatureMarks
 mod FactMarks
+mod HeardChannels
 mod SetBits
 -- Features name each case of a frame.
 mod Cases

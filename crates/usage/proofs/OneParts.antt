@@ -17,7 +17,7 @@ use Rattle.song_facts.specs.declared.facts.Facts.{Facts}
 use Rattle.song_facts.specs.declared.facts.Fact.TheVariants.{RowTone, RowSlide, RowOnce, FirstMask, Legato, NoHardRestart}
 use Rattle.song_facts.specs.declared.facts.Fact.TheVariants.{WaveDelay, GateNote, NoteVibrato, VibratoDelay, NotePulse, NoteFilter}
 use Rattle.song_facts.specs.declared.facts.Fact.TheVariants.{VoiceTempo, CommonTempo, FunkTurns, FunkChoice}
-use Rattle.song_facts.specs.declared.facts.Fact.TheVariants.{OwnTimer, OwnWave, Subtunes}
+use Rattle.song_facts.specs.declared.facts.Fact.TheVariants.{OwnTimer, OwnWave, Subtunes, VoiceTwo, VoiceThree}
 use Rattle.song_facts.specs.Facts.{is_among, AreFacts}
 use Rattle.usage.specs.declared.features.TheConstants.{FEATURES}
 use Rattle.usage.specs.Marks.{IsMarked, count_of, AreMarks}
@@ -123,6 +123,8 @@ facts_with has = record {
   own_timer = has OwnTimer;
   own_wave = has OwnWave;
   subtunes = has Subtunes;
+  voice_two = has VoiceTwo;
+  voice_three = has VoiceThree;
 }
 
 -- each is had in both or in neither
@@ -156,6 +158,8 @@ facts_of has f same =
       same OwnTimer,
       same OwnWave,
       same Subtunes,
+      same VoiceTwo,
+      same VoiceThree,
     ) refl
 
 pub one_facts : (song : Song) (a b : Facts) → AreFacts song a → AreFacts song b → a ≡ b

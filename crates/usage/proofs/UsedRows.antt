@@ -84,7 +84,8 @@ used_row : (song : Song) (n : ℕ) (row : Row) → IsUsedRowOf song n row → Is
 used_row song n row u = record { pattern = n; used = u.used; has = u.has }
 
 -- a row stands in a pattern that is stored
-inside_of : (song : Song) (n i : ℕ) (row : Row) → length song.patterns ≤ i → Contains (pattern_at song n) row → n < i
+pub inside_of : (song : Song) (n i : ℕ) (row : Row) → length song.patterns ≤ i →
+    Contains (pattern_at song n) row → n < i
 unfolding pattern_at
 inside_of song n i row end has = elim (cases_lt n (length song.patterns)) [
   | inl stored ↦ omega arith

@@ -2,6 +2,7 @@
 pub mod Marks
 pub mod Parts
 pub mod Cases
+pub mod Channels
 -- Claimed: a law of these.
 pub mod PartLaws
 -- Inner: what the parts of `usage` promise each other.

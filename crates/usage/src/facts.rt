@@ -11,6 +11,7 @@ ghost use Rattle.song_facts.specs.Facts.{AreFacts};
 ghost use Rattle.usage.specs.Marks.{AreMarks};
 ghost use Rattle.usage.specs.Found.{IsFoundOf};
 
+use crate::channels::{has_channel_row, heard_patterns};
 use crate::found::Found;
 use crate::marks::ByteMarks;
 use crate::uses::has_mark;
@@ -165,6 +166,7 @@ impl Found {
         ensures { AreFacts song.now result }
     {
         let used = &self.rows.instruments;
+        let heard = heard_patterns(song);
         Facts {
             row_tone: self.has_tone(song),
             row_slide: self.has_slide(song),
@@ -185,6 +187,8 @@ impl Found {
             own_timer: has_pair(song, used, Fact::OwnTimer),
             own_wave: has_pair(song, used, Fact::OwnWave),
             subtunes: has_subtunes(song),
+            voice_two: has_channel_row(song, 2, &heard),
+            voice_three: has_channel_row(song, 3, &heard),
         }
     }
 }

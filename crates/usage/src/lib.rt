@@ -2,7 +2,8 @@
 //!
 //! The layer's one contract: `usage` answers the parts that a song uses, the features that its player needs
 //! and the facts that the song has, exactly where the song can be played, and else the first rule that it
-//! breaks with its least place. It takes no memory, and its work is linear in the song.
+//! breaks with its least place. It takes no memory, and its work is linear in the song. `heard_patterns` marks the
+//! patterns that have something to play.
 //!
 //! It stands on `song_model` for the song, on `play_model` for what is used and what can be played, on
 //! `song_facts` for which facts a song has, on `safe_states` for the law that the features name each case that
@@ -10,6 +11,7 @@
 //! The packer and the command `check` stand on it.
 #![tactic(auto)]
 
+mod channels;
 mod checks;
 /// Facts about the definitions.
 pub mod claims;
@@ -26,5 +28,6 @@ mod rows;
 mod uses;
 mod waves;
 
+pub use channels::heard_patterns;
 pub use parts::{UsedParts, usage};
 pub use play_model::Unplayable;
