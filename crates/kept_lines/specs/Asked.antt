@@ -12,7 +12,7 @@ use Rattle.player_memory.specs.declared.conditions.TheConstants.{ROW_TONE, ROW_S
 use Rattle.player_memory.specs.declared.conditions.TheConstants.{NO_HARD_RESTART, WAVE_DELAY, GATE_NOTE, ROW_COMMAND}
 use Rattle.player_memory.specs.declared.conditions.TheConstants.{NOTE_VIBRATO, VIBRATO_DELAY, NOTE_PULSE, NOTE_FILTER}
 use Rattle.player_memory.specs.declared.conditions.TheConstants.{VOICE_TEMPO, COMMON_TEMPO, FUNK_TURNS, FUNK_CHOICE}
-use Rattle.player_memory.specs.declared.conditions.TheConstants.{OWN_TIMER, OWN_WAVE, SUBTUNES}
+use Rattle.player_memory.specs.declared.conditions.TheConstants.{OWN_TIMER, OWN_WAVE, SUBTUNES, VOICE_TWO, VOICE_THREE}
 
 -- whether the bit of a condition is set
 abbrev pub is_in : ℕ → ℕ → Bool
@@ -44,6 +44,8 @@ asks_fact facts condition =
     else if condition == OWN_TIMER then facts.own_timer
     else if condition == OWN_WAVE then facts.own_wave
     else if condition == SUBTUNES then facts.subtunes
+    else if condition == VOICE_TWO then facts.voice_two
+    else if condition == VOICE_THREE then facts.voice_three
     else false
 
 -- those below 24 are the features, by their bits

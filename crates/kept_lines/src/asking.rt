@@ -7,7 +7,7 @@ use packed_form::PackedSong;
 use player_memory::conditions::{
     COMMON_TEMPO, FIRST_MASK, FUNK_CHOICE, FUNK_TURNS, GATE_NOTE, LEGATO, NO_HARD_RESTART,
     NOTE_FILTER, NOTE_PULSE, NOTE_VIBRATO, OWN_TIMER, OWN_WAVE, ROW_COMMAND, ROW_ONCE, ROW_SLIDE,
-    ROW_TONE, SUBTUNES, VIBRATO_DELAY, VOICE_TEMPO, WAVE_DELAY,
+    ROW_TONE, SUBTUNES, VIBRATO_DELAY, VOICE_TEMPO, VOICE_THREE, VOICE_TWO, WAVE_DELAY,
 };
 use scope_lines::Conditions;
 use song_facts::Facts;
@@ -45,6 +45,8 @@ fn asks_fact(facts: &Facts, condition: u8) -> bool
         OWN_TIMER => facts.own_timer,
         OWN_WAVE => facts.own_wave,
         SUBTUNES => facts.subtunes,
+        VOICE_TWO => facts.voice_two,
+        VOICE_THREE => facts.voice_three,
         _ => false,
     }
 }

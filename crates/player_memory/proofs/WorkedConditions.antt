@@ -8,12 +8,12 @@ use Rattle.song_facts.specs.declared.facts.Fact.TheVariants.{NoHardRestart}
 use Rattle.song_facts.specs.declared.facts.Fact.TheVariants.{WaveDelay, GateNote, NoteVibrato, VibratoDelay, NotePulse}
 use Rattle.song_facts.specs.declared.facts.Fact.TheVariants.{NoteFilter}
 use Rattle.song_facts.specs.declared.facts.Fact.TheVariants.{VoiceTempo, CommonTempo, FunkTurns, FunkChoice}
-use Rattle.song_facts.specs.declared.facts.Fact.TheVariants.{OwnTimer, OwnWave, Subtunes}
+use Rattle.song_facts.specs.declared.facts.Fact.TheVariants.{OwnTimer, OwnWave, Subtunes, VoiceTwo, VoiceThree}
 use Rattle.song_facts.specs.Facts.{HasFact, no_facts}
 use Rattle.player_memory.specs.declared.conditions.TheConstants.{GATE_NOTE}
 use Rattle.player_memory.specs.FactLines.{KeepsMarked, KeepsMarkedAlone}
 use Rattle.player_memory.specs.WorkedConditions.{ConditionsAreFeatures, ConditionsAreFacts, FactLinesAreWorked}
-use Rattle.player_memory.specs.WorkedConditions.{with_holding}
+use Rattle.player_memory.specs.WorkedConditions.{with_holding, RunsAreWorked}
 
 pub conditions_are_features : ConditionsAreFeatures
 conditions_are_features = record {
@@ -63,6 +63,8 @@ conditions_are_facts FunkChoice = refl
 conditions_are_facts OwnTimer = refl
 conditions_are_facts OwnWave = refl
 conditions_are_facts Subtunes = refl
+conditions_are_facts VoiceTwo = refl
+conditions_are_facts VoiceThree = refl
 
 none_kept : (layout : Layout) → KeepsMarked layout no_facts
 none_kept layout RowTone on = absurd cc
@@ -84,6 +86,8 @@ none_kept layout FunkChoice on = absurd cc
 none_kept layout OwnTimer on = absurd cc
 none_kept layout OwnWave on = absurd cc
 none_kept layout Subtunes on = absurd cc
+none_kept layout VoiceTwo on = absurd cc
+none_kept layout VoiceThree on = absurd cc
 
 gate_kept : (layout : Layout) → layout.holds GATE_NOTE ≡ true →
     KeepsMarked layout (record no_facts { gate_note = true })
@@ -106,6 +110,8 @@ gate_kept layout holds FunkChoice on = absurd cc
 gate_kept layout holds OwnTimer on = absurd cc
 gate_kept layout holds OwnWave on = absurd cc
 gate_kept layout holds Subtunes on = absurd cc
+gate_kept layout holds VoiceTwo on = absurd cc
+gate_kept layout holds VoiceThree on = absurd cc
 
 -- where at most the condition of a keyoff holds
 none_alone : (layout : Layout) → KeepsMarkedAlone (with_holding layout []) (record no_facts { gate_note = true })
@@ -128,6 +134,8 @@ none_alone layout FunkChoice on = absurd cc
 none_alone layout OwnTimer on = absurd cc
 none_alone layout OwnWave on = absurd cc
 none_alone layout Subtunes on = absurd cc
+none_alone layout VoiceTwo on = absurd cc
+none_alone layout VoiceThree on = absurd cc
 
 gate_alone : (layout : Layout) →
     KeepsMarkedAlone (with_holding layout (GATE_NOTE ∷ [])) (record no_facts { gate_note = true })
@@ -150,6 +158,8 @@ gate_alone layout FunkChoice on = absurd cc
 gate_alone layout OwnTimer on = absurd cc
 gate_alone layout OwnWave on = absurd cc
 gate_alone layout Subtunes on = absurd cc
+gate_alone layout VoiceTwo on = absurd cc
+gate_alone layout VoiceThree on = absurd cc
 
 -- the song of one note has a keyoff
 key_off : HasFact one_note GateNote
@@ -192,6 +202,8 @@ fact_lines_are_worked layout = record {
   timer_more = λ alone. (let on = alone OwnTimer refl in absurd cc);
   wave_more = λ alone. (let on = alone OwnWave refl in absurd cc);
   subtunes_more = λ alone. (let on = alone Subtunes refl in absurd cc);
+  two_more = λ alone. (let on = alone VoiceTwo refl in absurd cc);
+  three_more = λ alone. (let on = alone VoiceThree refl in absurd cc);
   held_gate = λ on. inl refl;
   held_envelope = λ on. inr refl;
   not_held = λ on. absurd cc;
@@ -243,4 +255,15 @@ fact_lines_are_worked layout = record {
     control = λ on. absurd cc;
     cutoff = λ on. refl;
   };
+}
+
+pub runs_are_worked : (layout : Layout) → RunsAreWorked layout
+runs_are_worked layout = record {
+  first = refl;
+  second = refl;
+  third = refl;
+  not_second = refl;
+  not_third = refl;
+  second_turns = refl;
+  third_turns = refl;
 }

@@ -1,6 +1,6 @@
 -- A memory that holds the start of a subtune, computed; and what doesn't hold it.
 use Rattle.std.proofs.Common.{◌≡◌, ℕ, zero, suc, ◌+◌, ◌<◌, ◌≤◌, ◌&&◌, true, false, nat_eq, nat_le}
-use Rattle.std.proofs.Common.{nat_lt, length, [], ◌∷◌, pos, refl, arith, inl, inr}
+use Rattle.std.proofs.Common.{nat_lt, length, [], ◌∷◌, pos, refl, ap, arith, inl, inr}
 use Rattle.std.proofs.lemmas.Bool.{agree_below_at, ltb-true, leb-true, le-leb, lt-ltb, eqb-false, and_parts, both_ways}
 use Rattle.std.proofs.lemmas.List.Elements.{Contains-get_or, All-cons, All-nil}
 use Rattle.cpu6502.specs.declared.memory.TheConstants.{MEMORY_SIZE}
@@ -11,7 +11,7 @@ use Rattle.song_model.specs.Walk.{played, prefix_of, cycle_of}
 use Rattle.song_model.specs.Places.{place_of, place_after, prefix_places, cycle_places}
 use Rattle.song_model.specs.LookUp.{table_row, instrument_at, pattern_at, playable_subtune}
 use Rattle.play_model.specs.Freq.{freq}
-use Rattle.play_model.specs.State.{no_options, start_state, start_voice, voice_of, playing_of}
+use Rattle.play_model.specs.State.{FrameState, no_options, start_state, start_voice, voice_of, playing_of}
 use Rattle.play_model.specs.Uses.{UsesFeature}
 use Rattle.packed_form.specs.declared.entries.EntryKind.TheVariants.{Note}
 use Rattle.packed_form.specs.Entries.{IsEntry, no_command}
@@ -34,7 +34,7 @@ use Rattle.player_memory.specs.WorkedStarting.{its_orders}
 use Rattle.player_memory.specs.WorkedLists.{worked_song, list_layout, plain_song, plain_layout}
 use Rattle.player_memory.specs.WorkedHolds.{memory_with, song_memory, HasLists, HasPlainLists, ListsAreInMemory}
 use Rattle.player_memory.specs.WorkedHolds.{IsLaidOut, PatternAt, LayoutsAreWorked, HoldsIn, StatesAreHeld, KeepsBut}
-use Rattle.player_memory.specs.WorkedHolds.{KeptAreWorked, moved_in, walked_memory, walked_state, HoldsSecond}
+use Rattle.player_memory.specs.WorkedHolds.{KeptAreWorked, HeldAreWorked, moved_in, walked_memory, walked_state, HoldsSecond}
 use Rattle.player_memory.proofs.Standing.{playing_in}
 use Rattle.player_memory.proofs.WorkedRooms.{IsLaid, IsOpen, room_in, uses_in, behind_slides, off_variables}
 use Rattle.player_memory.proofs.Starting.{voice_begins, shared_rows_begin, beginnings_play}
@@ -396,4 +396,16 @@ kept_are_worked = record {
   filter = λ keeps. both_ways false refl (keeps FilterTable (λ e. omega (arith, e)));
   transpose = λ keeps. both_ways false refl (keeps Transpose transpose);
   repeat = λ keeps. both_ways false refl (keeps Repeat repeat);
+}
+
+-- ---- voices that aren't run
+
+pub held_are_worked : HeldAreWorked
+held_are_worked = record {
+  all = refl;
+  first = refl;
+  second = refl;
+  third = refl;
+  not_second = λ same. (let tick : 1 ≡ 2 = ap (λ (x : FrameState). x.two.tick) same in omega (arith, tick));
+  not_third = λ same. (let row : 0 ≡ 1 = ap (λ (x : FrameState). x.three.row) same in omega (arith, row));
 }

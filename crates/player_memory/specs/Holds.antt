@@ -1,6 +1,6 @@
 -- When a memory holds a state of the playroutine between two frames, and how the labels of a player are laid out for a
 -- packed song. This is the project's own player.
-use Rattle.std.specs.Prelude.{◌≡◌, ℕ, ◌+◌, ◌*◌, ◌<◌, ◌≤◌, true, length}
+use Rattle.std.specs.Prelude.{◌≡◌, ℕ, ◌+◌, ◌*◌, ◌<◌, ◌≤◌, Bool, true, length, if◌then◌else◌}
 use Rattle.cpu6502.specs.declared.memory.TheConstants.{MEMORY_SIZE}
 use Rattle.song_model.specs.declared.features.Feature.{Feature}
 use Rattle.song_model.specs.declared.orders.Order.{Order}
@@ -8,7 +8,7 @@ use Rattle.song_model.specs.Feature.{bit_of}
 use Rattle.song_model.specs.LookUp.{order_of}
 use Rattle.play_model.specs.declared.options.Options.{Options}
 use Rattle.play_model.specs.LookUps.{LookUps, look_ups_of}
-use Rattle.play_model.specs.State.{FrameState, playing_of, voice_of}
+use Rattle.play_model.specs.State.{FrameState, start_voice, playing_of, voice_of}
 use Rattle.play_model.specs.Frame.{subtune_at}
 use Rattle.play_model.specs.Uses.{UsesFeature}
 use Rattle.packed_form.specs.declared.packed_songs.PackedSong.{PackedSong}
@@ -19,6 +19,7 @@ use Rattle.player_memory.specs.declared.labels.TheConstants.{NEXT_FREQUENCY_LOWS
 use Rattle.player_memory.specs.declared.labels.TheConstants.{NEXT_WAVE_LEFTS, WAVE_RIGHTS, NEXT_WAVE_RIGHTS}
 use Rattle.player_memory.specs.declared.labels.TheConstants.{PULSE_LEFTS, NEXT_PULSE_LEFTS, FILTER_LEFTS}
 use Rattle.player_memory.specs.declared.labels.TheConstants.{NEXT_FILTER_LEFTS, ONE_TIMER, ONE_WAVE}
+use Rattle.player_memory.specs.FactLines.{is_run}
 use Rattle.player_memory.specs.Rooms.{IsRoom, IsElsewhere, MayUse}
 use Rattle.player_memory.specs.Playing.{own_at, shared_at, place_in, IsPlaying}
 use Rattle.player_memory.specs.Fetching.{place_before, IsInSong}
@@ -50,6 +51,13 @@ pub record Holds (layout : Layout) (packed : PackedSong) (k : ℕ) (x : FrameSta
   pub lists : HasSongLists layout packed at
   pub voices : (voice : ℕ) → voice < 3 → VoiceHolds layout packed k voice x at
   pub none_lent : shared_at layout at LENT ≡ 0
+
+-- what memory holds for a state: a voice that isn't run stays as it starts
+abbrev pub held : (ℕ → Bool) → FrameState → FrameState
+held holds x = record x {
+  two = if is_run holds 1 then x.two else start_voice;
+  three = if is_run holds 2 then x.three else start_voice;
+}
 
 -- ---- layouts
 

@@ -1,8 +1,8 @@
 -- The lists of a packed song as the player reads them: what each of them has, under which label, and where their bytes
 -- stand. This is the project's own player.
 use Rattle.std.specs.Prelude.{◌≡◌, ℕ, ◌+◌, ◌-◌, ◌*◌, ◌/◌, ◌%◌, ◌<◌, ◌≤◌, ◌==◌}
-use Rattle.std.specs.Prelude.{Bool, true, false, if◌then◌else◌, ◌||◌, nat_lt, List, [], length, slice_index, slice_index_or}
-use Rattle.std.specs.Prelude.{sum_by}
+use Rattle.std.specs.Prelude.{Bool, true, false, if◌then◌else◌, ◌||◌, nat_lt}
+use Rattle.std.specs.Prelude.{List, [], length, slice_index, slice_index_or, sum_by}
 use Rattle.std.specs.List.{range_with_len}
 use Rattle.song_model.specs.declared.instruments.Instrument.{Instrument}
 use Rattle.song_model.specs.declared.tables.TableRow.{TableRow}

@@ -1,6 +1,6 @@
 -- Which condition keeps the lines of each feature: the one with the number of the feature's bit; and of each fact: the
 -- one with the fact's number, from 34 on.
-use Rattle.std.specs.Prelude.{◌≡◌, ℕ, ◌+◌, true, List, [], ◌∷◌, nat_eq}
+use Rattle.std.specs.Prelude.{◌≡◌, ℕ, ◌+◌, true, false, List, [], ◌∷◌, nat_eq}
 use Rattle.std.specs.List.{list_any}
 use Rattle.song_model.specs.declared.features.Feature.TheVariants.{Transpose, Repeat, PortaUp, PortaDown, TonePorta}
 use Rattle.song_model.specs.declared.features.Feature.TheVariants.{TieNote, Vibrato, InstrumentVibrato, NoteDependent}
@@ -24,9 +24,9 @@ use Rattle.player_memory.specs.declared.conditions.TheConstants.{ROW_COMMAND, LE
 use Rattle.player_memory.specs.declared.conditions.TheConstants.{GATE_NOTE, NOTE_PULSE, NOTE_FILTER, NOTE_VIBRATO}
 use Rattle.player_memory.specs.declared.conditions.TheConstants.{VIBRATO_DELAY}
 use Rattle.player_memory.specs.declared.conditions.TheConstants.{ROW_TONE, FILTER_USED, HELD_NOTE, OWN_TIMER, OWN_WAVE}
-use Rattle.player_memory.specs.declared.conditions.TheConstants.{SUBTUNES}
+use Rattle.player_memory.specs.declared.conditions.TheConstants.{SUBTUNES, VOICE_TWO, VOICE_THREE}
 use Rattle.player_memory.specs.FactLines.{fact_condition, KeepsMarked, KeepsMarkedAlone, KeepsFacts, KeepsShared}
-use Rattle.player_memory.specs.FactLines.{HoldsAlone}
+use Rattle.player_memory.specs.FactLines.{HoldsAlone, is_run}
 
 pub record ConditionsAreFeatures : Type 0 where
   pub transposes : bit_of Transpose ≡ TRANSPOSES
@@ -79,6 +79,8 @@ pub record FactLinesAreWorked (layout : Layout) : Type 0 where
   pub timer_more : ¬ KeepsMarkedAlone (with_holding layout (OWN_TIMER ∷ [])) no_facts
   pub wave_more : ¬ KeepsMarkedAlone (with_holding layout (OWN_WAVE ∷ [])) no_facts
   pub subtunes_more : ¬ KeepsMarkedAlone (with_holding layout (SUBTUNES ∷ [])) no_facts
+  pub two_more : ¬ KeepsMarkedAlone (with_holding layout (VOICE_TWO ∷ [])) no_facts
+  pub three_more : ¬ KeepsMarkedAlone (with_holding layout (VOICE_THREE ∷ [])) no_facts
   -- those of what is held are kept with the lines of one that holds it, and with no others
   pub held_gate : HoldsAlone (with_holding layout (HELD_NOTE ∷ LEGATO ∷ []))
   pub held_envelope : HoldsAlone (with_holding layout (HELD_NOTE ∷ NO_HARD_RESTART ∷ []))
@@ -98,3 +100,14 @@ pub record FactLinesAreWorked (layout : Layout) : Type 0 where
   pub control : ¬ KeepsShared (with_holding layout (SET_FILTER_CONTROL ∷ []))
   pub cutoff : ¬ KeepsShared (with_holding layout (SET_CUTOFF ∷ []))
   pub filters : KeepsShared (with_holding layout (SET_CUTOFF ∷ FILTER_USED ∷ []))
+
+-- the first voice is run in each layout, the second where its own channel has something to play, and the third so; and
+-- all three where the voices take turns between two tempos
+pub record RunsAreWorked (layout : Layout) : Type 0 where
+  pub first : is_run (with_holding layout []).holds 0 ≡ true
+  pub second : is_run (with_holding layout (VOICE_TWO ∷ [])).holds 1 ≡ true
+  pub third : is_run (with_holding layout (VOICE_THREE ∷ [])).holds 2 ≡ true
+  pub not_second : is_run (with_holding layout (VOICE_THREE ∷ [])).holds 1 ≡ false
+  pub not_third : is_run (with_holding layout (VOICE_TWO ∷ [])).holds 2 ≡ false
+  pub second_turns : is_run (with_holding layout (FUNK_TEMPO ∷ [])).holds 1 ≡ true
+  pub third_turns : is_run (with_holding layout (FUNK_TEMPO ∷ [])).holds 2 ≡ true

@@ -1,11 +1,11 @@
 -- A memory that holds the start of a subtune with the lists of a small packed song, worked by hand; and such as don't
 -- hold it, layouts that don't have their room, and lines that aren't kept.
-use Rattle.std.specs.Prelude.{◌≡◌, ℕ, ◌+◌, ◌-◌, ◌&&◌, true, not, nat_eq, nat_le, nat_lt, if◌then◌else◌}
+use Rattle.std.specs.Prelude.{◌≡◌, ◌≢◌, ℕ, ◌+◌, ◌-◌, ◌&&◌, true, false, not, nat_eq, nat_le, nat_lt, if◌then◌else◌}
 use Rattle.std.specs.Prelude.{List, [], ◌∷◌, length, map, slice_index}
 use Rattle.code_runs.specs.Runs.{put}
 use Rattle.play_model.specs.State.{FrameState, no_options, start_state, start_voice}
 use Rattle.scopes.specs.Desk.{Layout}
-use Rattle.player_memory.specs.declared.conditions.TheConstants.{TRANSPOSES, REPEATS, FILTER_TABLE}
+use Rattle.player_memory.specs.declared.conditions.TheConstants.{TRANSPOSES, REPEATS, FILTER_TABLE, VOICE_TWO, VOICE_THREE}
 use Rattle.player_memory.specs.declared.labels.TheConstants.{REST, OFFSET, PATTERN_LOW, PATTERN_HIGH, ORDER_PLACE}
 use Rattle.player_memory.specs.declared.labels.TheConstants.{ORDER_LOW, TICK, VOLUME, LENT, FUNK_ONE, FUNK_TWO}
 use Rattle.player_memory.specs.declared.labels.TheConstants.{NEXT_FREQUENCY_LOWS, NEXT_FREQUENCY_HIGHS}
@@ -14,7 +14,7 @@ use Rattle.player_memory.specs.declared.labels.TheConstants.{NEXT_FILTER_LEFTS, 
 use Rattle.player_memory.specs.declared.labels.TheConstants.{ORDERS, PATTERNS, ONE_TIMER, ONE_WAVE}
 use Rattle.player_memory.specs.SongLists.{HasSongLists}
 use Rattle.player_memory.specs.Holds.{order_in, order_label, VoiceHolds, Holds, IsPlayerLayout, PatternStands}
-use Rattle.player_memory.specs.Holds.{KeepsUsed}
+use Rattle.player_memory.specs.Holds.{KeepsUsed, held}
 use Rattle.player_memory.specs.WorkedPlays.{with_variable}
 use Rattle.player_memory.specs.WorkedStarting.{with_voice_begun}
 use Rattle.player_memory.specs.WorkedLists.{all_pieces, worked_song, plain_song, list_layout, plain_layout}
@@ -188,3 +188,14 @@ pub record KeptAreWorked : Type 0 where
   pub filter : ¬ KeepsBut FILTER_TABLE filtering
   pub transpose : ¬ KeepsBut TRANSPOSES (start_state no_options)
   pub repeat : ¬ KeepsBut REPEATS (start_state no_options)
+
+-- ---- voices that aren't run
+
+-- where all voices are run each is held as the state has it; else the second, or the third, as it starts
+pub record HeldAreWorked : Type 0 where
+  pub all : held (λ condition. true) walked_state ≡ walked_state
+  pub first : held (λ condition. false) walked_state ≡ record walked_state { two = start_voice; three = start_voice }
+  pub second : held (nat_eq VOICE_TWO) walked_state ≡ record walked_state { three = start_voice }
+  pub third : held (nat_eq VOICE_THREE) walked_state ≡ record walked_state { two = start_voice }
+  pub not_second : held (nat_eq VOICE_THREE) walked_state ≢ walked_state
+  pub not_third : held (nat_eq VOICE_TWO) walked_state ≢ walked_state

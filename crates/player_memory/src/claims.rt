@@ -3,11 +3,13 @@
 ghost use Rattle.play_model.specs.LookUps.{LookUps};
 ghost use Rattle.player_memory.specs.WorkedCommands.{CommandsAreWorked};
 ghost use Rattle.player_memory.specs.WorkedConditions.{ConditionsAreFeatures, ConditionsAreFacts, FactLinesAreWorked};
+ghost use Rattle.player_memory.specs.WorkedConditions.{RunsAreWorked};
 ghost use Rattle.scopes.specs.Desk.{Layout};
 ghost use Rattle.player_memory.specs.Starting.{BeginningsPlay};
 ghost use Rattle.player_memory.specs.WorkedFetching.{SongsAreWorked};
 ghost use Rattle.player_memory.specs.WorkedForms.{FormsAreWorked};
 ghost use Rattle.player_memory.specs.WorkedHolds.{ListsAreInMemory, LayoutsAreWorked, StatesAreHeld, KeptAreWorked};
+ghost use Rattle.player_memory.specs.WorkedHolds.{HeldAreWorked};
 ghost use Rattle.player_memory.specs.WorkedLists.{SongListsAreWorked};
 ghost use Rattle.player_memory.specs.WorkedMemory.{VariablesHaveRows, VoicesAreWorked, RoomsAreWorked};
 ghost use Rattle.player_memory.specs.WorkedMemory.{VoiceRowsAreWorked, CommonsAreWorked};
@@ -45,9 +47,10 @@ pub fn conditions_are_features()
     ensures facts { ConditionsAreFacts }
 {}
 
-/// Layouts that keep the lines of a song's facts, or don't, worked by hand.
+/// Layouts that keep the lines of a song's facts, or don't, and the voices that are run in some, worked by hand.
 pub fn worked_fact_lines()
-    ensures { (layout : Layout) → FactLinesAreWorked layout }
+    ensures facts { (layout : Layout) → FactLinesAreWorked layout }
+    ensures runs { (layout : Layout) → RunsAreWorked layout }
 {}
 
 /// The condition that keeps the lines of each command, in a row and in the wave table, and layouts that keep them or
@@ -83,9 +86,11 @@ pub fn worked_lists()
 
 /// A memory that holds the start of that song's second subtune: its lists in memory, its layout, the voices of its
 /// state, and the lines that its first frame uses; and such as don't, by a byte, an address or a line: worked by hand.
+/// And what is held of a state where not all voices are run.
 pub fn worked_holds()
     ensures lists { ListsAreInMemory }
     ensures layouts { LayoutsAreWorked }
     ensures states { StatesAreHeld }
     ensures kept { KeptAreWorked }
+    ensures held { HeldAreWorked }
 {}

@@ -1,10 +1,10 @@
 -- What is so of the player's blocks: they have lines, rest on few registers, and name the player's labels alone; and
 -- how long and how heavy they are. This is the project's own player.
-use Rattle.std.specs.Prelude.{◌≡◌, ℕ, ◌<◌, ◌&&◌, ◌||◌, ◌==◌, Bool, true, false, List, length}
+use Rattle.std.specs.Prelude.{◌≡◌, ℕ, ◌<◌, ◌≤◌, ◌&&◌, ◌||◌, ◌==◌, Bool, true, false, List, length}
 use Rattle.std.specs.Prelude.{nat_le, nat_lt}
 use Rattle.scopes.specs.declared.line.Line.{Line}
 use Rattle.scopes.specs.Trees.{tree_of}
-use Rattle.scope_lines.specs.Sizes.{size, most}
+use Rattle.scope_lines.specs.Sizes.{size}
 use Rattle.scope_lines.specs.Weights.{weight}
 use Rattle.scope_lines.specs.Reach.{nothing_around, has_lines}
 use Rattle.scope_lines.specs.Readings.{is_block}
@@ -34,7 +34,8 @@ pub record AreBlocks : Type 0 where
 pub record HaveLines : Type 0 where
   pub filter : has_lines nothing_around filter_tree ≡ true
   pub voice : has_lines nothing_around voice_tree ≡ true
-  pub init : (start : Start) (variables : ℕ) → HasBytes start → variables < 256 → has_lines nothing_around (init_tree start variables) ≡ true
+  pub init : (start : Start) (cleared : ℕ) → HasBytes start → cleared < 256 →
+      has_lines nothing_around (init_tree start cleared) ≡ true
 
 -- ---- on which registers they rest
 
@@ -44,8 +45,8 @@ pub record RestOnFew : Type 0 where
   pub voice : (known voice_tree the_x).reads_known ≡ true
   pub voice_by_load : (known voice_tree (either the_x shown)).reads_known ≡ true
   pub voice_without : (known voice_tree nothing).reads_known ≡ false
-  pub init : (start : Start) (variables : ℕ) → (known (init_tree start variables) the_a).reads_known ≡ true
-  pub init_without : (start : Start) (variables : ℕ) → (known (init_tree start variables) nothing).reads_known ≡ false
+  pub init : (start : Start) (cleared : ℕ) → (known (init_tree start cleared) the_a).reads_known ≡ true
+  pub init_without : (start : Start) (cleared : ℕ) → (known (init_tree start cleared) nothing).reads_known ≡ false
 
 -- ---- which labels they name
 
@@ -66,22 +67,22 @@ is_order_list label = label == ORDERS_LOW || label == ORDERS_HIGH
 pub record NameFew : Type 0 where
   pub filter : uses_only (λ label. is_shared label || is_filter_list label) filter_tree ≡ true
   pub voice : uses_only (λ label. is_variable label || is_list label) voice_tree ≡ true
-  pub init : (start : Start) (variables : ℕ) →
-      uses_only (λ label. is_variable label || is_order_list label) (init_tree start variables) ≡ true
+  pub init : (start : Start) (cleared : ℕ) →
+      uses_only (λ label. is_variable label || is_order_list label) (init_tree start cleared) ≡ true
 
 -- ---- how long and how heavy they are
 
--- a block has so many lines; so many bytes where no condition holds, so many where all do, which are the most; and it
--- runs at most so many instructions
+-- a block has so many lines; so many bytes where no condition holds, and so many where all do, which are the most; and
+-- it runs at most so many instructions
 pub record Measures (lines : List Line) (count bare full heavy : ℕ) : Type 0 where
   pub counts : length lines ≡ count
   pub takes_bare : size (λ condition. false) (tree_of lines) ≡ bare
   pub takes_full : size (λ condition. true) (tree_of lines) ≡ full
-  pub takes_most : most (tree_of lines) ≡ full
+  pub takes_most : (holds : ℕ → Bool) → size holds (tree_of lines) ≤ full
   pub weighs : weight (tree_of lines) ≡ heavy
 
 -- of a voice the walk alone has 4,340 instructions, in 255 turns, and the halves of a half tone 64, in 16
 pub record AreMeasured : Type 0 where
   pub filter : Measures filter_lines 66 16 102 40
-  pub voice : Measures voice_lines 985 306 1336 4931
+  pub voice : Measures voice_lines 1012 312 1336 4934
   pub init : (start : Start) (cleared : ℕ) → Measures (init_lines start cleared) 62 46 92 425

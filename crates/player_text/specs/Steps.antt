@@ -25,6 +25,7 @@ use Rattle.player_text.specs.declared.fetch.TheConstants.{PULSE_LEFT_OUT}
 use Rattle.player_text.specs.declared.walk.TheConstants.{PLAY_REPEATED, ORDER_WALKED, PATTERN_FOUND, PATTERN_BEGUN}
 use Rattle.player_text.specs.declared.pulse.TheConstants.{PULSE}
 use Rattle.player_text.specs.declared.register.TheConstants.{REGISTERS}
+use Rattle.player_text.specs.declared.silence.TheConstants.{SILENCE}
 use Rattle.player_text.specs.Texts.{voice_tree}
 
 -- ---- trees one behind the other
@@ -128,4 +129,4 @@ pub record AreMade : Type 0 where
   pub command : command_tree ≡ ThenTree (WhenTree WAVE_COMMAND (all_of command_pieces)) NoneTree
   pub effect : effect_tree ≡ ThenTree (WhenTree EFFECTS (all_of effect_pieces)) NoneTree
   pub fetch : fetch_tree ≡ all_of fetch_pieces
-  pub voice : voice_tree ≡ all_of (in_scope SOUNDS sounding_pieces ∷ text REGISTERS ∷ [])
+  pub voice : voice_tree ≡ all_of (in_scope SOUNDS (text SILENCE ∷ sounding_pieces) ∷ text REGISTERS ∷ [])

@@ -7,15 +7,17 @@ use crate::pieces::steps;
 use crate::pitch::{GIVEN_BACK, PITCH};
 use crate::pulse::PULSE;
 use crate::register::REGISTERS;
+use crate::silence::SILENCE;
 use crate::slide::EFFECT_STEP;
 use crate::tick::TICK_STEP;
 use crate::wave::WAVE_STEP;
 use scopes::Line;
 
-/// A voice in a frame: its step, the fetch of its next row, and its registers. X is 7 times the voice's number, and no
+/// A voice in a frame: where it is run its step and the fetch of its next row, and its registers. X is 7 times the voice's number, and no
 /// other register is rested on.
 pub const VOICE: &[&[&[Line]]] = steps! {
     scope SOUNDS {
+        put SILENCE;
         scope TICKED {
             join TICK_STEP;
         }

@@ -6,7 +6,8 @@ use Rattle.player_memory.specs.declared.labels.TheConstants.{AD, VIB_DELAY, WAVE
 use Rattle.player_memory.specs.declared.labels.TheConstants.{TEMPO_TWO, TEMPO_THREE, FILTER_POINTER, FILTER_TIME}
 use Rattle.player_memory.specs.declared.labels.TheConstants.{FILTER_TYPE, FILTER_CONTROL, CUTOFF, VOLUME, LENT}
 use Rattle.player_memory.specs.declared.labels.TheConstants.{KEPT_COMMAND, KEPT_PARAM, FUNK_ONE, FUNK_TWO, VARIABLES}
-use Rattle.player_memory.specs.declared.labels.TheConstants.{WAVE_LEFTS, GATE_TIMER, INSTRUMENT, PATTERN_LOW, ORDER_HIGH, ORDER_PLACE}
+use Rattle.player_memory.specs.declared.labels.TheConstants.{WAVE_LEFTS, GATE_TIMER, INSTRUMENT, PATTERN_LOW}
+use Rattle.player_memory.specs.declared.labels.TheConstants.{ORDER_HIGH, ORDER_PLACE}
 use Rattle.player_memory.specs.declared.conditions.TheConstants.{TRANSPOSES, REPEATS, PULSE_TABLE, FILTER_TABLE}
 use Rattle.player_memory.specs.declared.conditions.TheConstants.{SET_FILTER_CONTROL, SET_VOLUME, FUNK_TEMPO}
 use Rattle.player_memory.specs.declared.conditions.TheConstants.{FUNK_CHOICE, WAVE_COMMAND, SKIP_FIRST, ROW_TONE}
