@@ -1,10 +1,10 @@
 -- Lines one behind the other: where code comes to, from where its pieces do.
-use Rattle.std.proofs.Common.{◌≡◌, ℕ, true, false, nat_eq, refl, sym, ◌∙◌}
+use Rattle.std.proofs.Common.{◌≡◌, ℕ, true, false, nat_eq, refl, sym, ap, ◌∙◌}
 use Rattle.std.proofs.lemmas.Bool.{eq-eqb}
 use Rattle.scopes.specs.Desk.{Desk, Layout}
 use Rattle.scopes.specs.Trees.{Tree, DoTree, WithTree, NoneTree, ThenTree, ScopeTree, LeaveTree, LeaveIfTree, LoopTree}
 use Rattle.scopes.specs.Trees.{AgainTree, AgainIfTree, WhenTree, ChooseTree, NeverTree}
-use Rattle.scopes.specs.Meaning.{Outcome, Done, Left, Again, Stuck, each_one, ran}
+use Rattle.scopes.specs.Meaning.{Outcome, Done, Left, Again, Stuck, each_one, ran, out_of_scope}
 use Rattle.player_text.specs.Steps.{then_lines}
 
 -- from a desk code comes to another one, and ends or goes on in this way
@@ -197,3 +197,26 @@ shed layout tree desk o after comes = by_way (ran each_one layout tree desk).out
         let there : (ran each_one layout (ThenTree tree NoneTree) desk).desk ≡ (ran each_one layout tree desk).desk =
         rw e refl in
         record { way = e ∙ (sym way ∙ comes.way); desk_is = sym there ∙ comes.desk_is })
+
+-- ---- another tree
+
+-- a scope, or lines with others behind them, come to the same as with another tree that comes to the same
+pub scope_same : (layout : Layout) (name : ℕ) (body other : Tree) (desk mid : Desk) →
+    Comes layout body desk (ran each_one layout other mid).outcome (ran each_one layout other mid).desk →
+    Comes layout (ScopeTree name body) desk (ran each_one layout (ScopeTree name other) mid).outcome
+    (ran each_one layout (ScopeTree name other) mid).desk
+scope_same layout name body other desk mid one = record { way = ap (out_of_scope name) one.way; desk_is = one.desk_is }
+
+pub then_same : (layout : Layout) (tree other rest : Tree) (desk mid : Desk) →
+    Comes layout tree desk (ran each_one layout other mid).outcome (ran each_one layout other mid).desk →
+    Comes layout (ThenTree tree rest) desk (ran each_one layout (ThenTree other rest) mid).outcome
+    (ran each_one layout (ThenTree other rest) mid).desk
+then_same layout tree other rest desk mid one = by_way (ran each_one layout other mid).outcome refl
+  where
+    by_way : (its : Outcome) → (ran each_one layout other mid).outcome ≡ its →
+        Comes layout (ThenTree tree rest) desk (ran each_one layout (ThenTree other rest) mid).outcome
+        (ran each_one layout (ThenTree other rest) mid).desk
+    by_way Done e = (let way = one.way ∙ e in let at = one.desk_is in record { way = rw (way, e, at) refl; desk_is = rw (way, e, at) refl })
+    by_way (Left name) e = (let way = one.way ∙ e in record { way = rw (way, e) refl; desk_is = rw (way, e) one.desk_is })
+    by_way Again e = (let way = one.way ∙ e in record { way = rw (way, e) refl; desk_is = rw (way, e) one.desk_is })
+    by_way Stuck e = (let way = one.way ∙ e in record { way = rw (way, e) refl; desk_is = rw (way, e) one.desk_is })

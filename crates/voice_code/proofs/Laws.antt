@@ -1,7 +1,7 @@
 -- The lemmas that upper crates may cite.
 
 -- what the code does in memory
-pub use Rattle.voice_code.proofs.Whole.{voice_block_plays}
+pub use Rattle.voice_code.proofs.Whole.{voice_block_plays, voice_block_rests}
 -- lists stand in a later memory
 pub use Rattle.voice_code.proofs.Lists.{ListsStay, listed_stays}
 pub use Rattle.voice_code.proofs.SongLists.{orderlist_stays}

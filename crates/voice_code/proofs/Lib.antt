@@ -19,6 +19,7 @@ mod SongLists
 mod Readying
 mod Ending
 -- The whole.
+mod Silence
 mod Stepping
 mod Whole
 mod WorkedVoice

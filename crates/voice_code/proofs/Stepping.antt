@@ -14,16 +14,13 @@ use Rattle.player_memory.specs.declared.conditions.TheConstants.{SKIP_FIRST, PUL
 use Rattle.player_memory.specs.Playing.{own_at, Plays, with_voice}
 use Rattle.player_text.specs.declared.joints.TheConstants.{EFFECTED}
 use Rattle.player_text.specs.Steps.{tick_tree as tick_text, fetch_tree as fetch_text}
-use Rattle.player_text.specs.Texts.{voice_tree}
 use Rattle.pitch_code.specs.GivenBackBlock.{given_back_tree, PlaysOwn, with_command}
 use Rattle.pitch_code.proofs.Laws.{given_back_block_plays}
 use Rattle.fetch_code.specs.FetchBlock.{Fetches, left_out}
 use Rattle.fetch_code.specs.FetchBlock.{way_of as fetch_way}
-use Rattle.pulse_code.specs.PulseBlock.{pulse_tree, IsOnRow}
-use Rattle.register_code.specs.RegisterBlock.{register_tree}
+use Rattle.pulse_code.specs.PulseBlock.{IsOnRow}
 use Rattle.voice_code.specs.VoiceBlock.{KeepsOptions}
 use Rattle.voice_code.proofs.Joining.{Comes, here}
-use Rattle.voice_code.proofs.Ways.{sounding, whole}
 use Rattle.voice_code.proofs.Ways.{Fetches as WayThrough}
 use Rattle.voice_code.proofs.SongLists.{in_song_stays}
 use Rattle.voice_code.proofs.Orders.{pulse_from, pulse_in_song}
@@ -32,13 +29,6 @@ use Rattle.voice_code.proofs.Stages.{others_then, plain_then}
 use Rattle.voice_code.proofs.Effects.{Ground}
 use Rattle.voice_code.proofs.Waving.{effects_tree, IsLeft, AsItIs, WithLent, Effected}
 use Rattle.voice_code.proofs.Ending.{Played}
-
--- ---- the text
-
--- a voice is made of its blocks
-pub voice_is : voice_tree
-    ≡ whole (sounding tick_text effects_tree given_back_tree fetch_text pulse_tree) register_tree
-voice_is = refl
 
 -- ---- what is lent goes back
 

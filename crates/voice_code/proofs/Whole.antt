@@ -8,11 +8,12 @@ use Rattle.play_model.specs.TickStep.{tick_step}
 use Rattle.play_model.specs.PulseStep.{pulse_step}
 use Rattle.play_model.specs.Frame.{pulse_left_out, row_fetched, voice_step}
 use Rattle.scopes.specs.Desk.{Desk, Layout}
-use Rattle.scopes.specs.Trees.{Tree, ScopeTree}
+use Rattle.scopes.specs.Trees.{Tree, NoneTree, ScopeTree}
 use Rattle.scopes.specs.Meaning.{Done, Left, Ran, each_one, ran}
-use Rattle.player_memory.specs.Playing.{own_at, IsPlaying, IsAtVoice, with_voice, there}
+use Rattle.player_memory.specs.declared.labels.TheConstants.{LENT}
+use Rattle.player_memory.specs.Playing.{own_at, shared_at, IsPlaying, IsAtVoice, with_voice, there}
 use Rattle.player_text.specs.declared.joints.TheConstants.{SOUNDS, TICKED, PULSED}
-use Rattle.player_text.specs.Steps.{tick_tree as tick_text, fetch_tree as fetch_text}
+use Rattle.player_text.specs.Steps.{tick_tree as tick_text, fetch_tree as fetch_text, then_lines}
 use Rattle.player_text.specs.Texts.{voice_tree}
 use Rattle.tick_code.specs.TickBlock.{tick_tree, Ticks, way_of}
 use Rattle.tick_code.proofs.Laws.{tick_block_steps}
@@ -25,19 +26,21 @@ use Rattle.pulse_code.specs.PulseBlock.{pulse_tree}
 use Rattle.pulse_code.proofs.Laws.{pulse_block_steps}
 use Rattle.register_code.specs.RegisterBlock.{register_tree}
 use Rattle.voice_code.specs.VoiceBlock.{Counts, HasVoiceLists, KeepsOptions, VoiceIsReady, VoicePlays}
-use Rattle.voice_code.specs.VoiceBlock.{VoiceBlockPlays, waved, effected}
-use Rattle.voice_code.proofs.Joining.{Comes, here, shed}
+use Rattle.voice_code.specs.VoiceBlock.{VoiceBlockPlays, VoiceBlockRests, waved, effected}
+use Rattle.voice_code.proofs.Joining.{Comes, here, shed, then_it, then_on, leaves_on, scope_left, scope_same}
+use Rattle.voice_code.proofs.Joining.{then_same}
+use Rattle.voice_code.proofs.Silence.{silence_tree, Told, told_run, told_rests}
 use Rattle.voice_code.proofs.Ways.{sounding, whole, voice_started, voice_left_out, voice_pulsed}
 use Rattle.voice_code.proofs.Lists.{ListsStay, waves_stay, tones_stay, speeds_stay, pulses_stay}
 use Rattle.voice_code.proofs.SongLists.{orderlist_stays, rows_stay, in_song_stays}
 use Rattle.voice_code.proofs.SongFields.{in_song, tick_same, wave_same, effected_same}
 use Rattle.voice_code.proofs.Orders.{pulse_behind, fetch_first, row_fetched_pulse}
-use Rattle.voice_code.proofs.Stages.{Stage, NoneLent, stage_of, stage_then, none_stays, lists_of}
+use Rattle.voice_code.proofs.Stages.{Stage, NoneLent, stage_of, stage_then, none_stays, lists_of, begins_at}
 use Rattle.voice_code.proofs.Effects.{Ground}
 use Rattle.voice_code.proofs.Waving.{effects_tree}
 use Rattle.voice_code.proofs.Commanding.{waves}
 use Rattle.voice_code.proofs.Ending.{Played, written}
-use Rattle.voice_code.proofs.Stepping.{voice_is, Returned, returned, Fetched, played_of, left_out_is, on_row, pulse_kept}
+use Rattle.voice_code.proofs.Stepping.{Returned, returned, Fetched, played_of, left_out_is, on_row, pulse_kept}
 use Rattle.voice_code.proofs.Stepping.{pulsed}
 
 -- what the voice's step begins with
@@ -57,38 +60,38 @@ record Start (layout : Layout) (rows voice label : ℕ) (o : Options) (look : Lo
 abbrev sounds_tree : Tree
 sounds_tree = sounding tick_text effects_tree given_back_tree fetch_text pulse_tree
 
+-- a voice that is run
+abbrev run_tree : Tree
+run_tree = whole sounds_tree register_tree
+
+-- a run that comes to where another one comes plays the same
+plays_there : (layout : Layout) (rows voice label : ℕ) (look : LookUps) (packed : ℕ → List ℕ) (order : Order)
+    (before : Desk) (run other : Ran) (s : Playing) → run.outcome ≡ Done → run.desk ≡ other.desk →
+    VoicePlays layout rows voice label look packed order before other s →
+    VoicePlays layout rows voice label look packed order before run s
+plays_there layout rows voice label look packed order before run other s way at last = record {
+  ends = way;
+  at_voice = rw at last.at_voice;
+  plays = rw at last.plays;
+  song = rw at last.song;
+  none_lent = rw at last.none_lent;
+  sounds = rw at last.sounds;
+  others = rw at last.others;
+  registers = rw at last.registers;
+  slides = rw at last.slides;
+  elsewhere = rw at last.elsewhere;
+}
+
 -- where the blocks before the registers have come to, the registers are written
 ends_with : (layout : Layout) (rows voice label : ℕ) (look : LookUps) (packed : ℕ → List ℕ) (order : Order)
     (before mid : Desk) (s : Playing) → Ground layout rows voice →
     Played layout rows voice label look packed order before mid s →
-    Comes layout (whole sounds_tree register_tree) before Done (ran each_one layout register_tree mid).desk →
-    VoicePlays layout rows voice label look packed order before (ran each_one layout voice_tree before) s
+    Comes layout run_tree before Done (ran each_one layout register_tree mid).desk →
+    VoicePlays layout rows voice label look packed order before (ran each_one layout run_tree before) s
 ends_with layout rows voice label look packed order before mid s ground played comes =
-    let last = written layout rows voice label look packed order before mid s ground played in
-    let text = sym (ap (λ tree. ran each_one layout tree before) voice_is) in
-    let way : (ran each_one layout voice_tree before).outcome ≡ Done =
-    subst (λ (run : Ran). run.outcome ≡ Done) text comes.way in
-    let at : (ran each_one layout voice_tree before).desk ≡ (ran each_one layout register_tree mid).desk =
-    subst (λ (run : Ran). run.desk ≡ (ran each_one layout register_tree mid).desk) text comes.desk_is in
-    plays_there layout rows voice label look packed order before (ran each_one layout voice_tree before)
-    (ran each_one layout register_tree mid) s way at last
-  where
-    plays_there : (layout : Layout) (rows voice label : ℕ) (look : LookUps) (packed : ℕ → List ℕ) (order : Order)
-        (before : Desk) (run other : Ran) (s : Playing) → run.outcome ≡ Done → run.desk ≡ other.desk →
-        VoicePlays layout rows voice label look packed order before other s →
-        VoicePlays layout rows voice label look packed order before run s
-    plays_there layout rows voice label look packed order before run other s way at last = record {
-      ends = way;
-      at_voice = rw at last.at_voice;
-      plays = rw at last.plays;
-      song = rw at last.song;
-      none_lent = rw at last.none_lent;
-      sounds = rw at last.sounds;
-      others = rw at last.others;
-      registers = rw at last.registers;
-      slides = rw at last.slides;
-      elsewhere = rw at last.elsewhere;
-    }
+    plays_there layout rows voice label look packed order before (ran each_one layout run_tree before)
+    (ran each_one layout register_tree mid) s comes.way comes.desk_is
+    (written layout rows voice label look packed order before mid s ground played)
 
 -- ---- up to the fetch
 
@@ -185,14 +188,14 @@ behind_fetch : (layout : Layout) (rows voice label : ℕ) (o : Options) (look : 
     pulse_left_out o (effected (voice + 1) o look s).voice ≡ out →
     Fetched layout rows voice label look packed order desk out
     (row_fetched look order (effected (voice + 1) o look s)) →
-    VoicePlays layout rows voice label look packed order desk (ran each_one layout voice_tree desk)
+    VoicePlays layout rows voice label look packed order desk (ran each_one layout run_tree desk)
     (pulse_behind o look (effected (voice + 1) o look s) (row_fetched look order (effected (voice + 1) o look s)))
 behind_fetch layout rows voice label o look packed order counts s desk start waits true is f =
     let e = effected (voice + 1) o look s in
     let t = row_fetched look order e in
     let last = ran each_one layout register_tree f.after in
     let same : t ≡ pulse_behind o look e t = rw is refl in
-    subst (VoicePlays layout rows voice label look packed order desk (ran each_one layout voice_tree desk)) same
+    subst (VoicePlays layout rows voice label look packed order desk (ran each_one layout run_tree desk)) same
     (ends_with layout rows voice label look packed order desk f.after t start.ground f.played
     (voice_left_out layout tick_text effects_tree given_back_tree fetch_text pulse_tree register_tree desk f.after
     last.desk f.ways
@@ -214,7 +217,7 @@ behind_fetch layout rows voice label o look packed order counts s desk start wai
     (pulse_kept layout e.voice t.voice fields ready.keeps) in
     let played = pulsed layout rows voice label look packed order desk f.after run t f.played plays in
     let same : u ≡ pulse_behind o look e t = rw is refl in
-    subst (VoicePlays layout rows voice label look packed order desk (ran each_one layout voice_tree desk)) same
+    subst (VoicePlays layout rows voice label look packed order desk (ran each_one layout run_tree desk)) same
     (ends_with layout rows voice label look packed order desk run.desk u start.ground played
     (voice_pulsed layout tick_text effects_tree given_back_tree fetch_text pulse_tree register_tree desk f.after run.desk
     last.desk f.ways (here layout pulse_tree f.after Done plays.but_slides.ends)
@@ -237,7 +240,7 @@ step_goes_on channel o look order s waits = rw waits (fetch_first o look order (
 steps : (layout : Layout) (rows voice label : ℕ) (o : Options) (look : LookUps) (packed : ℕ → List ℕ) (order : Order)
     (counts : Counts) (s : Playing) (desk : Desk) →
     Start layout rows voice label o look packed order counts s desk →
-    VoicePlays layout rows voice label look packed order desk (ran each_one layout voice_tree desk)
+    VoicePlays layout rows voice label look packed order desk (ran each_one layout run_tree desk)
     (voice_step (voice + 1) o look order s)
 steps layout rows voice label o look packed order counts s desk start =
     by_start (tick_step (voice + 1) look s).started refl
@@ -270,12 +273,12 @@ steps layout rows voice label o look packed order counts s desk start =
     }
 
     by_start : (started : Bool) → (tick_step (voice + 1) look s).started ≡ started →
-        VoicePlays layout rows voice label look packed order desk (ran each_one layout voice_tree desk)
+        VoicePlays layout rows voice label look packed order desk (ran each_one layout run_tree desk)
         (voice_step (voice + 1) o look order s)
     by_start true e =
         (let t = (tick_step (voice + 1) look s).playing in
         let last = ran each_one layout register_tree run.desk in
-        subst (VoicePlays layout rows voice label look packed order desk (ran each_one layout voice_tree desk))
+        subst (VoicePlays layout rows voice label look packed order desk (ran each_one layout run_tree desk))
         (sym (step_started (voice + 1) o look order s e))
         (ends_with layout rows voice label look packed order desk run.desk t start.ground played
         (voice_started layout tick_text effects_tree given_back_tree fetch_text pulse_tree register_tree desk run.desk
@@ -285,7 +288,7 @@ steps layout rows voice label o look packed order counts s desk start =
         (here layout register_tree run.desk Done
         (written layout rows voice label look packed order desk run.desk t start.ground played).ends))))
     by_start false e =
-        subst (VoicePlays layout rows voice label look packed order desk (ran each_one layout voice_tree desk))
+        subst (VoicePlays layout rows voice label look packed order desk (ran each_one layout run_tree desk))
         (sym (step_goes_on (voice + 1) o look order s e))
         (behind_fetch layout rows voice label o look packed order counts s desk start e
         (pulse_left_out o (effected (voice + 1) o look s).voice) refl
@@ -293,16 +296,104 @@ steps layout rows voice label o look packed order counts s desk start =
         (shed layout (ScopeTree TICKED tick_text) desk Done run.desk
         (here layout tick_tree desk Done (does.way ∙ ap way_of e))) stage none e))
 
+-- ---- where the voice is told
+
+-- a desk with the same memory before it
+before_same : (layout : Layout) (rows voice label : ℕ) (look : LookUps) (packed : ℕ → List ℕ) (order : Order)
+    (before mid : Desk) (run : Ran) (s : Playing) → mid.at ≡ before.at →
+    VoicePlays layout rows voice label look packed order mid run s →
+    VoicePlays layout rows voice label look packed order before run s
+before_same layout rows voice label look packed order before mid run s same plays = record {
+  ends = plays.ends;
+  at_voice = plays.at_voice;
+  plays = plays.plays;
+  song = plays.song;
+  none_lent = plays.none_lent;
+  sounds = plays.sounds;
+  others = rw (sym same) plays.others;
+  registers = rw (sym same) plays.registers;
+  slides = rw (sym same) plays.slides;
+  elsewhere = rw (sym same) plays.elsewhere;
+}
+
+-- the voice is run behind the block that tells it
+run_behind : (layout : Layout) (desk mid : Desk) → Comes layout silence_tree desk Done mid →
+    Comes layout voice_tree desk (ran each_one layout run_tree mid).outcome (ran each_one layout run_tree mid).desk
+run_behind layout desk mid told =
+    then_same layout (ScopeTree SOUNDS (then_lines silence_tree sounds_tree)) (ScopeTree SOUNDS sounds_tree)
+    (then_lines register_tree NoneTree) desk mid
+    (scope_same layout SOUNDS (then_lines silence_tree sounds_tree) sounds_tree desk mid
+    (then_on layout silence_tree sounds_tree desk mid (ran each_one layout sounds_tree mid).outcome
+    (ran each_one layout sounds_tree mid).desk told
+    (here layout sounds_tree mid (ran each_one layout sounds_tree mid).outcome refl)))
+
 pub voice_block_plays : VoiceBlockPlays
-voice_block_plays layout rows voice label o look packed order counts s desk room uses few common options lists orderlist
-    at plays none song ready = steps layout rows voice label o look packed order counts s desk (record {
-      ground = record { room = room; uses = uses; few = few; common = common };
-      options = options;
-      lists = lists;
-      orderlist = orderlist;
-      at_voice = at;
-      plays = plays;
-      none = none;
-      song = song;
-      ready = ready;
-    })
+voice_block_plays layout rows voice label o look packed order counts s desk room uses few runs common options lists
+    orderlist at plays none song ready =
+    before_same layout rows voice label look packed order desk mid (ran each_one layout voice_tree desk) _ told.memory
+    (plays_there layout rows voice label look packed order mid (ran each_one layout voice_tree desk)
+    (ran each_one layout run_tree mid) _ (comes.way ∙ steps_there.ends) comes.desk_is steps_there)
+  where
+    told : Told layout voice desk Done
+    told = told_run layout voice desk few at runs
+
+    mid : Desk
+    mid = told.after
+
+    comes : Comes layout voice_tree desk (ran each_one layout run_tree mid).outcome
+        (ran each_one layout run_tree mid).desk
+    comes = run_behind layout desk mid told.comes
+
+    steps_there : VoicePlays layout rows voice label look packed order mid (ran each_one layout run_tree mid)
+        (voice_step (voice + 1) o look order s)
+    steps_there =
+        (let same = sym told.memory in
+        steps layout rows voice label o look packed order counts s mid (record {
+          ground = record { room = room; uses = uses; few = few; common = common };
+          options = options;
+          lists = subst (λ memory. HasVoiceLists layout rows memory look counts) same lists;
+          orderlist = subst (λ memory. HasOrderlist layout rows memory label order) same orderlist;
+          at_voice = told.at_voice;
+          plays = subst (IsPlaying layout voice s) same plays;
+          none = subst (λ memory. shared_at layout memory LENT ≡ 0) same none;
+          song = subst (λ memory. IsInSong layout label look packed order s.voice (own_at layout memory voice)) same song;
+          ready = subst (λ memory. VoiceIsReady layout rows memory (voice + 1) o look packed order counts s) same ready;
+        }))
+
+-- a voice that isn't run has its registers written
+pub voice_block_rests : VoiceBlockRests
+voice_block_rests layout rows voice label look packed order s desk room uses few rests common at plays none song =
+    before_same layout rows voice label look packed order desk mid (ran each_one layout voice_tree desk) s told.memory
+    (plays_there layout rows voice label look packed order mid (ran each_one layout voice_tree desk)
+    (ran each_one layout register_tree mid) s comes.way comes.desk_is last)
+  where
+    ground : Ground layout rows voice
+    ground = record { room = room; uses = uses; few = few; common = common }
+
+    told : Told layout voice desk (Left SOUNDS)
+    told = told_rests layout voice desk few at rests
+
+    mid : Desk
+    mid = told.after
+
+    last : VoicePlays layout rows voice label look packed order mid (ran each_one layout register_tree mid) s
+    last =
+        (let same = sym told.memory in
+        written layout rows voice label look packed order mid mid s ground (record {
+          at_voice = told.at_voice;
+          plays = subst (IsPlaying layout voice s) same plays;
+          song = subst (λ memory. IsInSong layout label look packed order s.voice (own_at layout memory voice)) same song;
+          none = subst (λ memory. shared_at layout memory LENT ≡ 0) same none;
+          stays = (begins_at layout rows voice look mid s told.at_voice (subst (IsPlaying layout voice s) same plays)).stays;
+          slides = (begins_at layout rows voice look mid s told.at_voice (subst (IsPlaying layout voice s) same plays)).slides;
+        }))
+
+    comes : Comes layout voice_tree desk Done (ran each_one layout register_tree mid).desk
+    comes =
+        then_it layout (ScopeTree SOUNDS (then_lines silence_tree sounds_tree)) (then_lines register_tree NoneTree) desk mid
+        Done (ran each_one layout register_tree mid).desk
+        (scope_left layout SOUNDS (then_lines silence_tree sounds_tree) desk mid
+        (leaves_on layout silence_tree sounds_tree desk SOUNDS mid told.comes))
+        (then_on layout register_tree NoneTree mid (ran each_one layout register_tree mid).desk Done
+        (ran each_one layout register_tree mid).desk (here layout register_tree mid Done last.ends)
+        (record { way = refl; desk_is = refl }))

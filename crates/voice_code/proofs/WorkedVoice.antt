@@ -35,6 +35,19 @@ voices_are_worked = record {
     sr_is = refl;
   };
   first = refl;
+  still = record { ends = refl; tick_is = refl; rest_is = refl; cost_is = refl };
+  both_still = record { ends = refl; tick_is = refl; rest_is = refl; cost_is = refl };
+  still_sounds = record {
+    low_is = refl;
+    high_is = refl;
+    pulse_low_is = refl;
+    pulse_high_is = refl;
+    wave_is = refl;
+    ad_is = refl;
+    sr_is = refl;
+  };
+  other_still = record { ends = refl; tick_is = refl; rest_is = refl; cost_is = refl };
+  turns = record { ends = refl; tick_is = refl; rest_is = refl; cost_is = refl };
 }
 
 -- a place between the variables and the registers

@@ -16,6 +16,7 @@ use Rattle.scopes.specs.Meaning.{Done, Left, Ran, each_one, ran}
 use Rattle.player_memory.specs.declared.conditions.TheConstants.{NOTE_DEPENDENT, PULSE_TABLE}
 use Rattle.player_memory.specs.declared.conditions.TheConstants.{SKIP_EFFECTS, SKIP_PULSE, SKIP_FIRST}
 use Rattle.player_memory.specs.declared.labels.TheConstants.{LENT, TEMPO}
+use Rattle.player_memory.specs.FactLines.{is_run}
 use Rattle.player_memory.specs.Labels.{is_own}
 use Rattle.player_memory.specs.Rooms.{IsRoom, IsElsewhere, MayUse}
 use Rattle.player_memory.specs.Playing.{own_at, shared_at, IsPlaying, IsAtVoice, SlidesStay}
@@ -153,14 +154,24 @@ pub record VoicePlays (layout : Layout) (rows voice label : ℕ) (look : LookUps
   pub elsewhere : (place : ℕ) → IsElsewhere layout rows place → run.desk.at place ≡ before.at place
 
 -- In any memory that holds a voice that is playing and is in its song, while no command is lent, the code does the
--- voice's step of a frame, and writes its registers.
+-- voice's step of a frame where the voice is run, and writes its registers.
 abbrev pub VoiceBlockPlays : Type 0
 VoiceBlockPlays =
     (layout : Layout) (rows voice label : ℕ) (o : Options) (look : LookUps) (packed : ℕ → List ℕ) (order : Order)
     (counts : Counts) (s : Playing) (desk : Desk) → IsRoom layout rows → MayUse layout rows → voice < 3 →
+    is_run layout.holds voice ≡ true →
     KeepsCommon layout → KeepsOptions layout o → HasVoiceLists layout rows desk.at look counts →
     HasOrderlist layout rows desk.at label order → IsAtVoice voice desk → IsPlaying layout voice s desk.at →
     shared_at layout desk.at LENT ≡ 0 → IsInSong layout label look packed order s.voice (own_at layout desk.at voice) →
     VoiceIsReady layout rows desk.at (voice + 1) o look packed order counts s →
     VoicePlays layout rows voice label look packed order desk (ran each_one layout voice_tree desk)
     (voice_step (voice + 1) o look order s)
+
+-- where it isn't run the code leaves the voice as it is, and writes its registers
+abbrev pub VoiceBlockRests : Type 0
+VoiceBlockRests =
+    (layout : Layout) (rows voice label : ℕ) (look : LookUps) (packed : ℕ → List ℕ) (order : Order) (s : Playing)
+    (desk : Desk) → IsRoom layout rows → MayUse layout rows → voice < 3 → is_run layout.holds voice ≡ false →
+    KeepsCommon layout → IsAtVoice voice desk → IsPlaying layout voice s desk.at → shared_at layout desk.at LENT ≡ 0 →
+    IsInSong layout label look packed order s.voice (own_at layout desk.at voice) →
+    VoicePlays layout rows voice label look packed order desk (ran each_one layout voice_tree desk) s

@@ -1,13 +1,14 @@
--- The code of a voice in a frame, run by hand: a voice that waits, and one whose rest is due; and what a voice in a frame
--- isn't.
-use Rattle.std.specs.Prelude.{◌≡◌, ℕ, ◌+◌, false, nat_eq, List}
+-- The code of a voice in a frame, run by hand: a voice that waits, one whose rest is due, and one that isn't run; and what
+-- a voice in a frame isn't.
+use Rattle.std.specs.Prelude.{◌≡◌, ℕ, ◌+◌, false, nat_eq, List, [], ◌∷◌}
+use Rattle.std.specs.List.{list_any}
 use Rattle.code_runs.specs.Runs.{put}
 use Rattle.song_model.specs.declared.orders.Order.{Order}
 use Rattle.play_model.specs.LookUps.{LookUps}
 use Rattle.play_model.specs.State.{Playing, start_voice, start_common}
 use Rattle.scopes.specs.Desk.{Layout}
 use Rattle.scopes.specs.Meaning.{Outcome, Done, Left, Ran, each_one, ended, ran}
-use Rattle.player_memory.specs.declared.conditions.TheConstants.{PULSE_TABLE, OWN_TIMER}
+use Rattle.player_memory.specs.declared.conditions.TheConstants.{PULSE_TABLE, OWN_TIMER, FUNK_TEMPO, VOICE_TWO, VOICE_THREE}
 use Rattle.player_memory.specs.declared.labels.TheConstants.{TICK, WAVE, AD, SR, FREQ_LOW, FREQ_HIGH, PULSE_LOW}
 use Rattle.player_memory.specs.declared.labels.TheConstants.{PULSE_HIGH, GATE_TIMER, OFFSET, REST, LENT, ONE_TIMER}
 use Rattle.player_memory.specs.WorkedMemory.{at_1000}
@@ -16,15 +17,19 @@ use Rattle.player_text.specs.declared.joints.TheConstants.{SOUNDS}
 use Rattle.player_text.specs.Texts.{voice_tree}
 use Rattle.voice_code.specs.VoiceBlock.{VoicePlays}
 
--- no condition holds, or that of the pulse table, or of gateoff timers of their own, alone
+-- these conditions hold and no others
+abbrev pub holding : List ℕ → Layout
+holding conditions = record at_1000 { holds = λ condition. list_any (nat_eq condition) conditions }
+
+-- those for voices, alone or with that of the pulse table, or of gateoff timers of their own
 abbrev pub bare : Layout
-bare = record at_1000 { holds = λ condition. false }
+bare = holding (VOICE_TWO ∷ VOICE_THREE ∷ [])
 
 abbrev pub pulsing : Layout
-pulsing = record at_1000 { holds = λ condition. nat_eq condition PULSE_TABLE }
+pulsing = holding (PULSE_TABLE ∷ VOICE_TWO ∷ VOICE_THREE ∷ [])
 
 abbrev pub timing : Layout
-timing = record at_1000 { holds = λ condition. nat_eq condition OWN_TIMER }
+timing = holding (OWN_TIMER ∷ VOICE_TWO ∷ VOICE_THREE ∷ [])
 
 -- the second voice, in the middle of a row, with bytes for its registers, and its gateoff timer, which also stands for all
 abbrev pub waiting : ℕ → ℕ
@@ -74,6 +79,14 @@ pub record VoicesAreWorked : Type 0 where
   pub pulsing_waits : IsVoiced (voiced_in pulsing waiting) 2 0 28
   pub pulsing_sounds : HasSounds (voiced_in pulsing waiting) 0x12 0x34 0x56 0x08 0x40 0x09 0xA0
   pub first : (voiced waiting).desk.at 0xD400 ≡ 0
+  -- where its channel alone has nothing to play, or that of the third voice neither, it isn't run, and its registers are
+  -- written
+  pub still : IsVoiced (voiced_in (holding (VOICE_THREE ∷ [])) resting) 2 4 17
+  pub both_still : IsVoiced (voiced_in (holding []) resting) 2 4 17
+  pub still_sounds : HasSounds (voiced_in (holding []) resting) 0x12 0x34 0 0 0x40 0x09 0xA0
+  -- it is where the third one's has nothing, and where the voices take turns between two tempos
+  pub other_still : IsVoiced (voiced_in (holding (VOICE_TWO ∷ [])) resting) 1 3 28
+  pub turns : IsVoiced (voiced_in (holding (FUNK_TEMPO ∷ [])) resting) 1 3 26
 
 -- ---- what isn't left so
 
