@@ -5,7 +5,7 @@ ghost use Rattle.frame_code.specs.InitBlock.{BeginningsStart};
 
 /// In any memory that holds a state of a packed song, for which the steps of a frame are ready, the call of the frame
 /// comes to its end with the state behind the frame in memory and its 25 registers written; it leaves all else but the
-/// stack.
+/// stack. A voice that isn't run stays in memory as it starts.
 pub fn frames_play()
     ensures { FramesPlay }
 {}

@@ -25,6 +25,7 @@ use Rattle.frame_scenes.proofs.Ticks.{ticks_stand, in_lists, tick_keeps, one_wav
 use Rattle.frame_scenes.proofs.Waves.{wave_ready}
 use Rattle.frame_scenes.proofs.Effects.{effect_ready}
 use Rattle.frame_scenes.proofs.Pulses.{pulse_ready, on_filter_row}
+use Rattle.frame_scenes.proofs.Stills.{still_stays}
 
 voice_lists : (layout : Layout) (packed : PackedSong) (song : Song) (o : Options) (k : ℕ) (x : FrameState)
     (at : ℕ → ℕ) → Scene layout packed song o k x at →
@@ -90,5 +91,6 @@ frames_are_ready layout packed song o k x at scene = record {
   filter_row = on_filter_row layout packed song o k x at scene;
   filter_kept = scene.used FilterTable;
   lists = voice_lists layout packed song o k x at scene;
-  turns = λ voice few. turn_ready layout packed song o k voice x at (record { scene = scene; few = few });
+  turns = λ voice few runs. turn_ready layout packed song o k voice x at (record { scene = scene; few = few });
+  still = still_stays layout packed song o k x at scene;
 }

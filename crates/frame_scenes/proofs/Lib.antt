@@ -17,6 +17,8 @@ mod Moves
 mod Waves
 mod Effects
 mod Pulses
+-- Voices that aren't run.
+mod Stills
 -- All of them.
 mod Frames
 mod Reached

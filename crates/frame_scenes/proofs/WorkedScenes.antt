@@ -63,5 +63,6 @@ none_are_scenes layout packed song o k x at = record {
         | inl begins ↦ other begins.1
         | inr used ↦ none used
       ];
+  mute = λ silent loud scene. loud (scene.mute 1 (omega arith) silent).ad;
   range = λ e scene. let word = scene.range.one.freq in omega (arith, e, word);
 }

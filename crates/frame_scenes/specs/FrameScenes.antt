@@ -1,14 +1,15 @@
 -- What the frame after a state of a packed song stands on, and that it is ready then. This is the project's own player.
-use Rattle.std.specs.Prelude.{◌≡◌, ℕ, ◌<◌, ◌≤◌, true, List, length, Contains, IsBitSet}
+use Rattle.std.specs.Prelude.{◌≡◌, ℕ, ◌+◌, ◌<◌, ◌≤◌, true, List, length, Contains, IsBitSet}
 use Rattle.song_model.specs.declared.features.Feature.{Feature}
 use Rattle.song_model.specs.declared.songs.Song.{Song}
 use Rattle.song_model.specs.Feature.{bit_of}
 use Rattle.play_model.specs.declared.options.Options.{Options}
 use Rattle.play_model.specs.Speeds.{IsSpeed}
-use Rattle.play_model.specs.State.{FrameState}
+use Rattle.play_model.specs.State.{FrameState, voice_of}
 use Rattle.play_model.specs.Ranges.{IsFrameState}
 use Rattle.play_model.specs.Safe.{IsSafe}
 use Rattle.kept_notes.specs.Voices.{KeepAllNotes}
+use Rattle.silent_voices.specs.Mute.{IsMute, IsSilentChannel}
 use Rattle.packed_form.specs.declared.packed_patterns.TheConstants.{MOST_PACKED_BYTES}
 use Rattle.packed_form.specs.declared.packed_songs.PackedSong.{PackedSong}
 use Rattle.packed_form.specs.Unpacked.{unpacked_song, packed_state}
@@ -26,7 +27,8 @@ abbrev pub KeepsPatternLimits : PackedSong → Type 0
 KeepsPatternLimits packed = (pattern : List ℕ) → Contains packed.patterns pattern → length pattern ≤ MOST_PACKED_BYTES
 
 -- The packed song stands for a song, and its lists stand in memory. The state is one that a song may come to in this
--- subtune, and its voices have notes and gateoff timers of the song. The lines are kept of each feature that the frame
+-- subtune; its voices have notes and gateoff timers of the song, and are mute where their channel has nothing to play.
+-- The lines are kept of each feature that the frame
 -- uses, of each fact of the packed song and of no other fact, of what features and facts have in common, and of each
 -- option that is on; those of instruments that leave something as it is before a note, only for one of these.
 pub record Scene (layout : Layout) (packed : PackedSong) (song : Song) (o : Options) (k : ℕ) (x : FrameState)
@@ -45,6 +47,7 @@ pub record Scene (layout : Layout) (packed : PackedSong) (song : Song) (o : Opti
   pub below : k < length packed.subtunes
   pub safe : IsSafe (unpacked_song packed) k x
   pub notes : KeepAllNotes (unpacked_song packed) x
+  pub mute : (voice : ℕ) → voice < 3 → IsSilentChannel (unpacked_song packed) (voice + 1) → IsMute (voice_of (voice + 1) x)
   pub range : IsFrameState x
 
 -- the frame has what its steps read, and is ready for them

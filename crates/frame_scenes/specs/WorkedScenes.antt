@@ -9,6 +9,7 @@ use Rattle.play_model.specs.State.{FrameState}
 use Rattle.asked_numbers.specs.Numbers.{IsLastNumber}
 use Rattle.asked_numbers.specs.Range.{IsInRange}
 use Rattle.kept_notes.specs.Voices.{IsUsedTimer}
+use Rattle.silent_voices.specs.Mute.{IsSilentChannel}
 use Rattle.packed_form.specs.declared.packed_songs.PackedSong.{PackedSong}
 use Rattle.packed_form.specs.Unpacked.{unpacked_song}
 use Rattle.scopes.specs.Desk.{Layout}
@@ -30,7 +31,8 @@ pub record PatternLimitsAreWorked (packed : PackedSong) : Type 0 where
 -- orderlist's pattern has a keyoff, or rows have a command, and the lines for that aren't kept; where those for a
 -- keyoff are, and the song has none, or those of what an instrument leaves as it is, for none that does; behind the last
 -- subtune; where a note sounds that no song comes to, or a voice's last number is none of this song, or the gateoff
--- timer, which isn't 0, is none of it; and where a frequency is no word.
+-- timer, which isn't 0, is none of it; where the second voice has an envelope, and its channel nothing to play; and where
+-- a frequency is no word.
 pub record NoScenesAreWorked (layout : Layout) (packed : PackedSong) (song : Song) (o : Options) (k : ℕ)
     (x : FrameState) (at : ℕ → ℕ) : Type 0 where
   pub stands : length packed.subtunes ≢ length (playable_subtunes song) → ¬ Scene layout packed song o k x at
@@ -51,6 +53,7 @@ pub record NoScenesAreWorked (layout : Layout) (packed : PackedSong) (song : Son
   pub notes : ¬ IsLastNumber (unpacked_song packed) x.one.last_note → ¬ Scene layout packed song o k x at
   pub timer : x.one.gate_timer ≢ 0 → ¬ IsUsedTimer (unpacked_song packed) x.one.gate_timer →
       ¬ Scene layout packed song o k x at
+  pub mute : IsSilentChannel (unpacked_song packed) 2 → x.two.ad ≢ 0 → ¬ Scene layout packed song o k x at
   pub range : x.one.freq ≡ 65536 → ¬ Scene layout packed song o k x at
 
 abbrev pub NoneAreScenes : Type 0

@@ -9,7 +9,7 @@ use Rattle.scopes.specs.Desk.{Desk, Layout}
 use Rattle.scopes.specs.Meaning.{Ran, Done}
 use Rattle.scope_calls.specs.Entrances.{Entrance}
 use Rattle.scope_calls.specs.Meaning.{entrance_ran}
-use Rattle.player_memory.specs.Holds.{Holds, IsPlayerLayout}
+use Rattle.player_memory.specs.Holds.{Holds, IsPlayerLayout, held}
 use Rattle.frame_code.specs.FrameBlock.{PlaysFrames, ReadsOffStack, FrameIsReady}
 
 -- a layout and a memory in it with a state of subtune k; the conditions of the lines that the frame uses hold
@@ -17,15 +17,16 @@ pub record IsReadyFor (layout : Layout) (packed : PackedSong) (o : Options) (k :
     : Type 0 where
   pub laid : IsPlayerLayout layout packed
   pub reads : ReadsOffStack layout
-  pub holds : Holds layout packed k x desk.at
+  pub holds : Holds layout packed k (held layout.holds x) desk.at
   pub ready : FrameIsReady layout packed o k x desk.at
 
--- both calls come to their end, with the same state in memory and the same 25 registers
+-- both calls come to their end, each with the state behind the frame in memory, but voices that it doesn't run as they
+-- start, and with the same 25 registers
 pub record PlayTheSame (one other : Layout) (packed : PackedSong) (o : Options) (k : ℕ) (x : FrameState)
     (here there : Ran) : Type 0 where
   pub ends : (here.outcome ≡ Done) × (there.outcome ≡ Done)
-  pub state : Holds one packed k (frame_with o (unpacked_song packed) k x).state here.desk.at
-      × Holds other packed k (frame_with o (unpacked_song packed) k x).state there.desk.at
+  pub state : Holds one packed k (held one.holds (frame_with o (unpacked_song packed) k x).state) here.desk.at
+      × Holds other packed k (held other.holds (frame_with o (unpacked_song packed) k x).state) there.desk.at
   pub registers : (register : ℕ) → register < 25 →
       here.desk.at (0xD400 + register) ≡ there.desk.at (0xD400 + register)
 

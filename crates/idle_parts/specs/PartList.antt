@@ -21,7 +21,7 @@ use Rattle.player_memory.specs.declared.conditions.TheConstants.{WAVE_DELAY}
 use Rattle.player_memory.specs.declared.conditions.TheConstants.{GATE_NOTE, NOTE_VIBRATO, VIBRATO_DELAY, NOTE_PULSE}
 use Rattle.player_memory.specs.declared.conditions.TheConstants.{NOTE_FILTER}
 use Rattle.player_memory.specs.declared.conditions.TheConstants.{VOICE_TEMPO, COMMON_TEMPO, FUNK_TURNS, FUNK_CHOICE}
-use Rattle.player_memory.specs.declared.conditions.TheConstants.{OWN_TIMER, OWN_WAVE, SUBTUNES}
+use Rattle.player_memory.specs.declared.conditions.TheConstants.{OWN_TIMER, OWN_WAVE, SUBTUNES, VOICE_TWO, VOICE_THREE}
 use Rattle.player_memory.specs.declared.conditions.TheConstants.{EFFECTS, FILTER_USED}
 use Rattle.player_text.specs.declared.commands.TheConstants.{AD_SET, CUTOFF_SET, FILTER_CONTROL_SET}
 use Rattle.player_text.specs.declared.commands.TheConstants.{FILTER_POINTER_SET, FUNK_CHOSEN}
@@ -36,6 +36,7 @@ use Rattle.player_text.specs.declared.pulse.TheConstants.{PULSE}
 use Rattle.player_text.specs.declared.init.TheConstants.{SUBTUNE_TAKEN, VARIABLES_CLEARED, FUNK_STARTED}
 use Rattle.player_text.specs.declared.init.TheConstants.{VOICE_STARTED, TEMPO_STARTED}
 use Rattle.player_text.specs.declared.register.TheConstants.{REGISTERS}
+use Rattle.player_text.specs.declared.silence.TheConstants.{SILENCE}
 use Rattle.player_text.specs.declared.slide.TheConstants.{CLIMB_STEP, DROP_STEP, FOUND_STEP, PORTA_STEP, RISE_STEP}
 use Rattle.player_text.specs.declared.slide.TheConstants.{SINK_STEP, SPEED_STEP, SWING_STEP, TONE_STEP}
 use Rattle.player_text.specs.declared.tick.TheConstants.{FRAME_COUNTED, GATE_TIMER_SET, NOTE_TAKEN, NOTE_BEGUN}
@@ -81,7 +82,8 @@ pub record PartsAreThese : Type 0 where
   pub volume : bodies SET_VOLUME voice_tree ≡ part SET_VOLUME 0 VOLUME_SET.now ∷ part SET_VOLUME 0 VOLUME_SET.now ∷ []
   pub the_volume : bodies SET_VOLUME filter_tree
       ≡ part SET_VOLUME 0 FILTER_REGISTERS.now ∷ part SET_VOLUME 1 FILTER_REGISTERS.now ∷ []
-  pub funk : bodies FUNK_TEMPO voice_tree ≡ part FUNK_TEMPO 0 FRAME_COUNTED.now ∷ []
+  pub funk : bodies FUNK_TEMPO voice_tree
+      ≡ part FUNK_TEMPO 0 SILENCE.now ∷ part FUNK_TEMPO 1 SILENCE.now ∷ part FUNK_TEMPO 0 FRAME_COUNTED.now ∷ []
   pub tempo : bodies SET_TEMPO voice_tree ≡ part SET_TEMPO 0 TEMPO_SET.now ∷ []
   pub waves : bodies WAVE_TABLE voice_tree ≡ part WAVE_TABLE 0 WAVE_STEP.now ∷ []
   pub commands : bodies WAVE_COMMAND voice_tree
@@ -125,6 +127,10 @@ pub record PartsAreThese : Type 0 where
       ∷ part OWN_TIMER 0 ROW_REACHED.now ∷ part OWN_TIMER 1 ROW_REACHED.now ∷ part OWN_TIMER 0 FIRST_REACHED.now
       ∷ part OWN_TIMER 1 FIRST_REACHED.now ∷ []
   pub own_wave : bodies OWN_WAVE voice_tree ≡ part OWN_WAVE 0 NOTE_BEGUN.now ∷ part OWN_WAVE 1 NOTE_BEGUN.now ∷ []
+  pub voice_two : bodies VOICE_TWO voice_tree ≡ part VOICE_TWO 0 SILENCE.now ∷ part VOICE_TWO 1 SILENCE.now ∷ []
+  pub voice_three : bodies VOICE_THREE voice_tree
+      ≡ part VOICE_THREE 0 SILENCE.now ∷ part VOICE_THREE 1 SILENCE.now ∷ part VOICE_THREE 2 SILENCE.now
+      ∷ part VOICE_THREE 3 SILENCE.now ∷ []
   pub effects : bodies EFFECTS voice_tree
       ≡ part EFFECTS 0 NOTE_BEGUN.now ∷ part EFFECTS 1 NOTE_BEGUN.now ∷ part EFFECTS 0 COMMAND_BEGUN.now
       ∷ part EFFECTS 1 COMMAND_BEGUN.now ∷ part EFFECTS 2 COMMAND_BEGUN.now ∷ part EFFECTS 0 EFFECT_BEGUN.now

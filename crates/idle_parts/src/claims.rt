@@ -58,7 +58,8 @@ pub fn parts_are_met()
     ensures plays { PlaysAreFound }
 {}
 
-/// Whatever is kept besides what a frame uses, the frame's call leaves the same state and the same registers.
+/// Whatever is kept besides what a frame uses, the frame's call leaves the same registers, and the same state of each
+/// voice that both run.
 pub fn parts_can_be_left_out()
     ensures { PartsCanBeLeftOut }
 {}

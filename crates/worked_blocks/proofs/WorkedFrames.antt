@@ -130,6 +130,8 @@ ready : (layout : Layout) (packed : PackedSong) (o : Options) (k : ℕ) (x : Fra
 ready layout packed o k x at desk = record {
   filter = λ on out ready. (let kept = ready.filter_kept on in cc);
   shared = λ on out ready. (let kept = ready.shared.filter on in cc);
+  still = λ voice register few rests other ready.
+      other (ap (λ bytes. slice_index bytes register) (ready.still voice few rests).registers);
   a = λ called. (let is = called.a in omega (arith, is));
   stored = λ called. (let few = called.stored in omega (arith, few));
   byte = λ many called. (let few = called.byte in omega (arith, many, few));

@@ -12,7 +12,7 @@ use Rattle.song_facts.specs.declared.facts.Fact.TheVariants.{RowTone, RowSlide, 
 use Rattle.song_facts.specs.declared.facts.Fact.TheVariants.{NoHardRestart, WaveDelay, GateNote, NoteVibrato}
 use Rattle.song_facts.specs.declared.facts.Fact.TheVariants.{VibratoDelay, NotePulse, NoteFilter, VoiceTempo}
 use Rattle.song_facts.specs.declared.facts.Fact.TheVariants.{CommonTempo, FunkTurns, FunkChoice, OwnTimer, OwnWave}
-use Rattle.song_facts.specs.declared.facts.Fact.TheVariants.{Subtunes}
+use Rattle.song_facts.specs.declared.facts.Fact.TheVariants.{Subtunes, VoiceTwo, VoiceThree}
 use Rattle.song_facts.specs.Facts.{is_among, all_facts}
 use Rattle.packed_form.specs.declared.packed_songs.PackedSong.{PackedSong}
 use Rattle.play_model.specs.declared.options.Options.{Options}
@@ -465,6 +465,8 @@ are_marked several FunkChoice on = refl
 are_marked several OwnTimer on = refl
 are_marked several OwnWave on = refl
 are_marked several Subtunes on = on
+are_marked several VoiceTwo on = refl
+are_marked several VoiceThree on = refl
 
 begins : (any : PackedSong) (desk : Desk) (o : Options) → NoteBegins (note_packed any) desk o
 begins any desk o = record {

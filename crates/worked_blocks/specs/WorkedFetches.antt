@@ -1,5 +1,6 @@
 -- The code that fetches a row, run by hand: a walk, rests, a note, a play that is repeated, and a row that isn't due.
-use Rattle.std.specs.Prelude.{◌≡◌, ℕ, ◌+◌, ◌&&◌, ◌||◌, Bool, true, false, not, nat_eq, if◌then◌else◌, []}
+use Rattle.std.specs.Prelude.{◌≡◌, ℕ, ◌+◌, ◌&&◌, ◌||◌, Bool, true, false, not}
+use Rattle.std.specs.Prelude.{nat_eq, if◌then◌else◌, []}
 use Rattle.std.specs.Prelude.{◌∷◌}
 use Rattle.code_runs.specs.Runs.{put}
 use Rattle.song_model.specs.declared.orders.Order.{Order}

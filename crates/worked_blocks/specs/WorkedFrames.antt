@@ -1,10 +1,10 @@
 -- What the definitions of the two entrances take, and what they refuse.
 use Rattle.std.specs.Prelude.{◌≡◌, ◌≢◌, ℕ, ◌+◌, ◌%◌, ◌<◌, ◌≤◌, ◌||◌, true, false, nat_eq}
-use Rattle.std.specs.Prelude.{nat_le, Some, None, length, slice_index}
+use Rattle.std.specs.Prelude.{nat_le, Some, None, length, replicate, slice_index}
 use Rattle.code_runs.specs.Runs.{put}
 use Rattle.play_model.specs.declared.options.Options.{Options}
 use Rattle.play_model.specs.State.{FrameState}
-use Rattle.play_model.specs.Frame.{frame_with}
+use Rattle.play_model.specs.Frame.{frame_with, voice_step, voice_registers}
 use Rattle.packed_form.specs.declared.packed_songs.PackedSong.{PackedSong}
 use Rattle.packed_form.specs.Unpacked.{unpacked_song}
 use Rattle.scopes.specs.Desk.{Desk, Layout}
@@ -17,11 +17,12 @@ use Rattle.player_memory.specs.declared.labels.TheConstants.{LENT}
 use Rattle.player_memory.specs.Rooms.{IsElsewhere}
 use Rattle.player_memory.specs.Playing.{place_in}
 use Rattle.player_memory.specs.SongLists.{SongList, IsSongList, HasNumber, list_label, list_byte, slide_rows}
-use Rattle.player_memory.specs.Holds.{Holds, order_label}
+use Rattle.player_memory.specs.FactLines.{is_run}
+use Rattle.player_memory.specs.Holds.{Holds, held, look_of, order_in, order_label}
 use Rattle.player_text.specs.declared.texts.Start.{Start}
 use Rattle.player_text.specs.Texts.{filter_tree, voice_tree, init_tree}
 use Rattle.init_code.specs.InitBlock.{IsUntouched}
-use Rattle.frame_code.specs.FrameBlock.{PlaysFrames, FrameIsReady, Frames, IsOffStack, ReadsOffStack}
+use Rattle.frame_code.specs.FrameBlock.{PlaysFrames, FrameIsReady, Frames, IsOffStack, ReadsOffStack, turn_in}
 use Rattle.kept_lines.specs.Starts.{start_of}
 use Rattle.frame_code.specs.InitBlock.{BeginsSubtunes, BeginsSubtune, ReadsOffTimer, IsCalledWith}
 
@@ -115,7 +116,7 @@ leaving run place byte = record run { desk = record run.desk { at = put run.desk
 pub record FramesExactly (layout : Layout) (packed : PackedSong) (o : Options) (k : ℕ) (x : FrameState) (before : Desk)
     (run : Ran) : Type 0 where
   pub ends : (outcome : Outcome) → outcome ≢ Done → ¬ Frames layout packed o k x before (ending run outcome)
-  pub holds : ¬ Holds layout packed k (frame_with o (unpacked_song packed) k x).state run.desk.at →
+  pub holds : ¬ Holds layout packed k (held layout.holds (frame_with o (unpacked_song packed) k x).state) run.desk.at →
       ¬ Frames layout packed o k x before run
   pub register : (register : ℕ) → register < 25 →
       ¬ Frames layout packed o k x before
@@ -141,12 +142,17 @@ pub record BeginsExactly (layout : Layout) (packed : PackedSong) (o : Options) (
       ¬ BeginsSubtune layout packed o k count before (leaving run place (before.at place + 1))
 
 -- no frame is ready whose filter's program has no lines, nor any where the filter's table has lines and its bytes have
--- none; and no call has the number of a subtune with another number in A, with one that isn't stored, or with one whose
+-- none, nor one with a voice that isn't run and would write another number than 0; and no call has the number of a subtune with another number in A, with one that isn't stored, or with one whose
 -- third orderlist's number is no byte
 pub record ReadyExactly (layout : Layout) (packed : PackedSong) (o : Options) (k : ℕ) (x : FrameState) (at : ℕ → ℕ)
     (desk : Desk) : Type 0 where
   pub filter : x.common.filter_ptr ≢ 0 → layout.holds FILTER_TABLE ≡ false → ¬ FrameIsReady layout packed o k x at
   pub shared : layout.holds FILTER_TABLE ≡ true → layout.holds FILTER_USED ≡ false →
+      ¬ FrameIsReady layout packed o k x at
+  pub still : (voice register : ℕ) → voice < 3 → is_run layout.holds voice ≡ false →
+      slice_index
+      (voice_registers (voice_step (voice + 1) o (look_of packed) (order_in packed k voice)
+      (turn_in packed o k voice x)).voice) register ≢ slice_index (replicate 7 0) register →
       ¬ FrameIsReady layout packed o k x at
   pub a : ¬ IsCalledWith packed k (record desk { cpu = record desk.cpu { a = k + 1 } })
   pub stored : ¬ IsCalledWith packed (length packed.subtunes) desk
