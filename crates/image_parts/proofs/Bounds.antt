@@ -10,7 +10,6 @@ use Rattle.packed_form.specs.Sizes.{packed_song_size}
 use Rattle.packed_form.specs.CodeBounds.{kept_parts}
 use Rattle.scopes.specs.Trees.{Tree}
 use Rattle.scope_lines.specs.Readings.{holds_in}
-use Rattle.scope_lines.proofs.Laws.{sizes_are_bounded}
 use Rattle.scope_parts.specs.Parts.{parts, bytes_of}
 use Rattle.scope_parts.specs.PartLaws.{most_of}
 use Rattle.scope_parts.proofs.Laws.{parts_are_bounded}
@@ -72,12 +71,12 @@ around_most holds part variables filter voice init few =
     omega (arith, a, b, c, d, e, f, n, front, m, l, k, x, y, z)
 
 -- the numbers, computed
-few_of : (start : Start) (cleared part : ℕ) → part < 58 →
+few_of : (start : Start) (cleared part : ℕ) → part < 60 →
     most_around part filter_tree voice_tree (init_tree start cleared) ≤ 320
 few_of start cleared part low =
     leb-true _ 320
     (agree_below_at (λ n. nat_le (most_around n filter_tree voice_tree (init_tree start cleared)) 320) (λ n. true)
-    58 part refl low)
+    60 part refl low)
 
 rest_of : (start : Start) (cleared : ℕ) →
     most_around always filter_tree voice_tree (init_tree start cleared) ≤ 3070
@@ -101,7 +100,7 @@ no_more_than n m a b = omega (arith, a, b)
 
 pub parts_are_short : PartsAreShort
 parts_are_short asked o = record {
-  parts = λ part other. elim (cases_lt part 58) [
+  parts = λ part other. elim (cases_lt part 60) [
     | inl low ↦
         rw (ne_eqb part always other)
         (no_more_than _ _ (code_most asked o part) (few_of (start_of o) (cleared_by asked o) part low))
@@ -126,16 +125,11 @@ slides_most asked rows few = elim (cases_Bool (is_in asked NOTE_DEPENDENT)) [
 pub code_is_short : CodeIsShort
 code_is_short asked o =
     let holds = holds_in (kept_set asked o) in
-    let start = start_of o in
-    let measured = are_measured in
-    bounds _ _ _ _ _ _ _ _ (code_takes_its_parts asked o) (counts_are_few holds).1 (sizes_are_bounded holds filter_tree)
-    (sizes_are_bounded holds voice_tree) (sizes_are_bounded holds (begins asked o)) measured.filter.takes_most
-    measured.voice.takes_most (measured.init start (cleared_by asked o)).takes_most
+    bounds _ _ _ _ _ (code_takes_its_parts asked o) (counts_are_few holds).1 (are_measured.filter.takes_most holds)
+    (are_measured.voice.takes_most holds) ((are_measured.init (start_of o) (cleared_by asked o)).takes_most holds)
   where
-    bounds : (all n f v i mf mv mi : ℕ) → all ≡ 22 + n + f + v + i → n ≤ 113 → f ≤ mf → v ≤ mv → i ≤ mi → mf ≡ 102 →
-        mv ≡ 1336 → mi ≡ 92 → all + 2 ≤ 1667
-    bounds all n f v i mf mv mi e few one two three four five six =
-        omega (arith, e, few, one, two, three, four, five, six)
+    bounds : (all n f v i : ℕ) → all ≡ 22 + n + f + v + i → n ≤ 113 → f ≤ 102 → v ≤ 1336 → i ≤ 92 → all + 2 ≤ 1667
+    bounds all n f v i e few one two three = omega (arith, e, few, one, two, three)
 
 frequencies_most : (range : NumberRange) (size : ℕ) → range.first + range.count ≤ 129 → frequency_bytes range size ≤ 258
 frequencies_most range size few = most range.first range.count (2 + size) few

@@ -4,15 +4,19 @@ use Rattle.std.proofs.Common.{◌++◌, replicate, if◌then◌else◌, refl, sy
 use Rattle.std.specs.List.{AllByRecursion}
 use Rattle.std.proofs.lemmas.Bool.{eqb-true, or_cases, or_parts, and_parts, true≢false}
 use Rattle.play_model.specs.declared.options.Options.{Options}
-use Rattle.scopes.specs.Trees.{Tree}
+use Rattle.scopes.specs.Trees.{Tree, ThenTree}
 use Rattle.scope_lines.specs.Readings.{holds_in}
 use Rattle.scope_parts.specs.Parts.{parts, bytes_of}
 use Rattle.scope_parts.specs.PartLaws.{most_of, least_of}
 use Rattle.scope_parts.proofs.Laws.{parts_are_bounded, parts_are_there}
 use Rattle.player_memory.specs.declared.conditions.TheConstants.{PULSE_TABLE, SET_VOLUME, WAVE_COMMAND, ROW_SLIDE}
 use Rattle.player_memory.specs.declared.conditions.TheConstants.{EFFECTS, PORTA_UP, PORTA_DOWN, TONE_PORTA, TIE_NOTE}
-use Rattle.player_memory.specs.declared.conditions.TheConstants.{OWN_TIMER, OWN_WAVE}
+use Rattle.player_memory.specs.declared.conditions.TheConstants.{OWN_TIMER, OWN_WAVE, FUNK_TEMPO, VOICE_TWO, VOICE_THREE}
+use Rattle.player_text.specs.declared.joints.TheConstants.{SOUNDS}
+use Rattle.player_text.specs.declared.register.TheConstants.{REGISTERS}
+use Rattle.player_text.specs.declared.silence.TheConstants.{SILENCE}
 use Rattle.player_text.specs.declared.texts.Start.{Start}
+use Rattle.player_text.specs.Steps.{all_of, in_scope, text, sounding_pieces}
 use Rattle.player_text.specs.Texts.{filter_tree, voice_tree, init_tree}
 use Rattle.kept_lines.specs.Starts.{start_of}
 use Rattle.kept_lines.specs.Asked.{is_in}
@@ -23,7 +27,7 @@ use Rattle.variable_places.specs.Places.{free_places, funk_place, variable_count
 use Rattle.variable_places.proofs.Laws.{counts_are_few, counts_rise, counts_are_no_fewer}
 use Rattle.player_code.specs.CodeLines.{cleared_of}
 use Rattle.image_parts.specs.CodeParts.{always}
-use Rattle.image_parts.specs.PartLaws.{in_place, RestIsExact, RestIsBounded}
+use Rattle.image_parts.specs.PartLaws.{RestIsExact, RestIsBounded}
 use Rattle.image_parts.proofs.Sums.{around}
 use Rattle.image_parts.proofs.Settled.{settled, settled_has_the_parts}
 use Rattle.image_parts.proofs.Bounds.{both, plain_is}
@@ -81,10 +85,20 @@ in_place_of pulse volume effects timer wave =
     (if pulse then 0 else 2) + (if volume then 0 else 2) + (if effects then 0 else 3) + (if timer then 0 else 6)
     + (if wave then 0 else 3)
 
+-- the lines that tell whether a voice is run, and what stands behind them
+abbrev front_of : Tree → Tree
+front_of (ThenTree first rest) = first
+front_of tree = tree
+
+abbrev told_tree : Tree
+told_tree = front_of (text SILENCE)
+
+abbrev run_tree : Tree
+run_tree = all_of (in_scope SOUNDS sounding_pieces ∷ text REGISTERS ∷ [])
+
 -- the bytes of three blocks, by a number of each
 abbrev of_blocks : (Tree → ℕ) → Start → ℕ → ℕ
-of_blocks number start cleared =
-    number filter_tree + number voice_tree + number (init_tree start cleared)
+of_blocks number start cleared = number filter_tree + number run_tree + number (init_tree start cleared)
 
 -- they have at least so many, and at most so many
 abbrev has_as_many : Start → ℕ → Bool → Bool → Bool → Bool → Bool → Bool
@@ -108,21 +122,57 @@ between holds tree =
     (parts_are_there holds always always known, parts_are_bounded holds always always known)
 
 blocks_are : (holds : ℕ → Bool) (start : Start) (variables : ℕ) →
-    of_blocks (λ tree. bytes_of always (parts holds always tree)) start variables ≡ 352 + in_place holds
+    of_blocks (λ tree. bytes_of always (parts holds always tree)) start variables
+    ≡ 352 + in_place_of (holds PULSE_TABLE) (holds SET_VOLUME) (holds EFFECTS) (holds OWN_TIMER) (holds OWN_WAVE)
 blocks_are holds start variables =
+    let its = in_place_of (holds PULSE_TABLE) (holds SET_VOLUME) (holds EFFECTS) (holds OWN_TIMER) (holds OWN_WAVE) in
     let both = and_parts
     (nat_eq (of_blocks (λ tree. least_of always always (made_by holds tree)) start variables)
-    (352 + in_place holds))
+    (352 + its))
     (nat_eq (of_blocks (λ tree. most_of always always (made_by holds tree)) start variables)
-    (352 + in_place holds))
+    (352 + its))
     (in_each (has_as_many start variables) (holds PULSE_TABLE) (holds SET_VOLUME) (holds EFFECTS) (holds OWN_TIMER)
     (holds OWN_WAVE) (all_have_as_many start variables)) in
-    squeezed _ _ _ _ _ _ _ _ _ _ (between holds filter_tree) (between holds voice_tree)
+    squeezed _ _ _ _ _ _ _ _ _ _ (between holds filter_tree) (between holds run_tree)
     (between holds (init_tree start variables)) (eqb-true _ _ both.0) (eqb-true _ _ both.1)
   where
     squeezed : (l f m k v n j i o all : ℕ) → (l ≤ f) × (f ≤ m) → (k ≤ v) × (v ≤ n) → (j ≤ i) × (i ≤ o) →
         l + k + j ≡ all → m + n + o ≡ all → f + v + i ≡ all
     squeezed l f m k v n j i o all (a, b) (c, d) (e, g) least most = omega (arith, a, b, c, d, e, g, least, most)
+
+-- the lines that tell whether a voice is run
+abbrev in_place_of_silence : Bool → Bool → Bool → ℕ
+in_place_of_silence funk two three = if funk || two || three then 0 else 6
+
+silence_is : (holds : ℕ → Bool) (funk two three : Bool) → holds FUNK_TEMPO ≡ funk → holds VOICE_TWO ≡ two →
+    holds VOICE_THREE ≡ three → bytes_of always (parts holds always told_tree) ≡ in_place_of_silence funk two three
+silence_is holds true two three f t h = rw f refl
+silence_is holds false true true f t h = rw (f, t, h) refl
+silence_is holds false true false f t h = rw (f, t, h) refl
+silence_is holds false false true f t h = rw (f, t, h) refl
+silence_is holds false false false f t h = rw (f, t, h) refl
+
+-- and the voice behind them
+voice_has : (holds : ℕ → Bool) →
+    bytes_of always (parts holds always voice_tree)
+    ≡ bytes_of always (parts holds always told_tree) + bytes_of always (parts holds always run_tree)
+voice_has holds =
+    let silence = parts holds always told_tree in
+    let sounds = parts holds always (all_of sounding_pieces) in
+    let registers = parts holds always (all_of (text REGISTERS ∷ [])) in
+    let one = both always (silence ++ sounds) registers in
+    let two = both always silence sounds in
+    let three = both always sounds registers in
+    same_sum _ _ _ _ _ _ _ one two three (ap (bytes_of always) voice_parts)
+  where
+    voice_parts : parts holds always voice_tree
+        ≡ (parts holds always told_tree ++ parts holds always (all_of sounding_pieces))
+        ++ parts holds always (all_of (text REGISTERS ∷ []))
+    voice_parts = refl
+
+    same_sum : (voice all front silence sounds registers run : ℕ) → all ≡ front + registers → front ≡ silence + sounds →
+        run ≡ sounds + registers → voice ≡ all → voice ≡ silence + run
+    same_sum voice all front silence sounds registers run a b c d = omega (arith, a, b, c, d)
 
 -- and with what stands around them
 around_is : (holds : ℕ → Bool) (variables : ℕ) (filter voice init : Tree) →
@@ -151,13 +201,15 @@ pub rest_is_exact : RestIsExact
 rest_is_exact asked o =
     let holds = holds_in (kept_set asked o) in
     let variables = variable_count holds in
-    with_zeros _ variables _ _
+    with_zeros _ variables _ _ _ _ _ _ _
     (around_is holds variables filter_tree voice_tree (init_tree (start_of o) (cleared_of variables)))
-    (blocks_are holds (start_of o) (cleared_of variables))
+    (blocks_are holds (start_of o) (cleared_of variables)) (voice_has holds)
+    (silence_is holds (holds FUNK_TEMPO) (holds VOICE_TWO) (holds VOICE_THREE) refl refl refl)
   where
-    with_zeros : (all variables blocks more : ℕ) → all ≡ 22 + variables + blocks → blocks ≡ 352 + more →
-        all + 2 ≡ 376 + variables + more
-    with_zeros all variables blocks more e f = omega (arith, e, f)
+    with_zeros : (all variables filter voice init run silence its more : ℕ) →
+        all ≡ 22 + variables + (filter + voice + init) → filter + run + init ≡ 352 + its → voice ≡ silence + run →
+        silence ≡ more → all + 2 ≡ 376 + variables + (its + more)
+    with_zeros all variables filter voice init run silence its more e f g h = omega (arith, e, f, g, h)
 
 -- ---- how many variables there are where conditions hold, or don't
 
@@ -311,12 +363,15 @@ rest_is_bounded asked o =
     let most = at_most asked o (holds PULSE_TABLE) (holds SET_VOLUME) (holds EFFECTS) (holds OWN_TIMER)
     (holds OWN_WAVE) refl refl refl refl in
     record {
-      from = from _ (variable_count holds) (in_place holds) exact least;
-      to = to _ (variable_count holds) (in_place holds) exact most;
+      from = from _ (variable_count holds) _ _ exact least;
+      to = to _ (variable_count holds) _ _ exact most
+          (no_more 6 (holds FUNK_TEMPO || holds VOICE_TWO || holds VOICE_THREE));
     }
   where
-    from : (rest variables more : ℕ) → rest ≡ 376 + variables + more → 67 ≤ variables + more → 443 ≤ rest
-    from rest variables more is least = omega (arith, is, least)
+    from : (rest variables more silence : ℕ) → rest ≡ 376 + variables + (more + silence) → 67 ≤ variables + more →
+        443 ≤ rest
+    from rest variables more silence is least = omega (arith, is, least)
 
-    to : (rest variables more : ℕ) → rest ≡ 376 + variables + more → variables + more ≤ 120 → rest ≤ 496
-    to rest variables more is most = omega (arith, is, most)
+    to : (rest variables more silence : ℕ) → rest ≡ 376 + variables + (more + silence) → variables + more ≤ 120 →
+        silence ≤ 6 → rest ≤ 502
+    to rest variables more silence is most few = omega (arith, is, most, few)

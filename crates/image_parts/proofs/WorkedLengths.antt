@@ -53,6 +53,8 @@ parts_are_measured = record {
   no_others = refl;
   alone = refl;
   alone_facts = refl;
+  two_turns = refl;
+  three_turns = refl;
   swings = refl;
   slide_common = refl;
   once_common = refl;
@@ -98,19 +100,19 @@ note_asks packed is =
     ∙ note_asked
 
 -- how long their code is
-silence_with_none : code_length (2 ^ 37) no_options ≡ 459
+silence_with_none : code_length (2 ^ 37) no_options ≡ 465
 unfolding kept_set voice_rows shared_rows asks has_byte voice_labels other_labels free_places funk_place variable_count
 silence_with_none = refl
 
-silence_with_all : code_length (2 ^ 37) (all_left_out 4) ≡ 515
+silence_with_all : code_length (2 ^ 37) (all_left_out 4) ≡ 521
 unfolding kept_set voice_rows shared_rows asks has_byte voice_labels other_labels free_places funk_place variable_count
 silence_with_all = refl
 
-note_with_none : code_length (0x402000 + 2 ^ 41 + 2 ^ 44) no_options ≡ 629
+note_with_none : code_length (0x402000 + 2 ^ 41 + 2 ^ 44) no_options ≡ 635
 unfolding kept_set voice_rows shared_rows asks has_byte voice_labels other_labels free_places funk_place variable_count
 note_with_none = refl
 
-note_with_all : code_length (0x402000 + 2 ^ 41 + 2 ^ 44) (all_left_out 4) ≡ 685
+note_with_all : code_length (0x402000 + 2 ^ 41 + 2 ^ 44) (all_left_out 4) ≡ 691
 unfolding kept_set voice_rows shared_rows asks has_byte voice_labels other_labels free_places funk_place variable_count
 note_with_all = refl
 
@@ -139,21 +141,21 @@ note_lists packed is = ap (λ (range : NumberRange). frequency_bytes range 33) i
 pub silences_are_measured : SilencesAreMeasured
 silences_are_measured packed is = record {
   with_none =
-      all_of packed no_options (2 ^ 37) 18 0 0 459 (silence_asks packed is) (silence_size packed is) refl
+      all_of packed no_options (2 ^ 37) 18 0 0 465 (silence_asks packed is) (silence_size packed is) refl
       (silence_lists packed is) silence_with_none;
   with_all =
-      all_of packed (all_left_out 4) (2 ^ 37) 18 0 0 515 (silence_asks packed is) (silence_size packed is) refl
+      all_of packed (all_left_out 4) (2 ^ 37) 18 0 0 521 (silence_asks packed is) (silence_size packed is) refl
       (silence_lists packed is) silence_with_all;
 }
 
 pub notes_are_measured : NotesAreMeasured
 notes_are_measured packed is = record {
   with_none =
-      all_of packed no_options (0x402000 + 2 ^ 41 + 2 ^ 44) 33 0 15 629 (note_asks packed is) (note_size packed is)
+      all_of packed no_options (0x402000 + 2 ^ 41 + 2 ^ 44) 33 0 15 635 (note_asks packed is) (note_size packed is)
       refl
       (note_lists packed is) note_with_none;
   with_all =
-      all_of packed (all_left_out 4) (0x402000 + 2 ^ 41 + 2 ^ 44) 33 0 15 685 (note_asks packed is)
+      all_of packed (all_left_out 4) (0x402000 + 2 ^ 41 + 2 ^ 44) 33 0 15 691 (note_asks packed is)
       (note_size packed is) refl
       (note_lists packed is) note_with_all;
 }

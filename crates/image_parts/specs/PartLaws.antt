@@ -1,5 +1,5 @@
 -- What holds of the parts of an image. This is the project's own player.
-use Rattle.std.specs.Prelude.{◌≡◌, ◌≢◌, ℕ, ◌+◌, ◌≤◌, Bool, false, if◌then◌else◌, length, sum_by}
+use Rattle.std.specs.Prelude.{◌≡◌, ◌≢◌, ℕ, ◌+◌, ◌≤◌, ◌||◌, Bool, false, if◌then◌else◌, length, sum_by}
 use Rattle.std.specs.List.{range_with_len}
 use Rattle.play_model.specs.declared.options.Options.{Options}
 use Rattle.asked_numbers.specs.declared.range.NumberRange.{NumberRange}
@@ -8,6 +8,7 @@ use Rattle.packed_form.specs.Sizes.{packed_song_size}
 use Rattle.packed_form.specs.CodeBounds.{code_bound}
 use Rattle.scope_lines.specs.Readings.{holds_in}
 use Rattle.player_memory.specs.declared.conditions.TheConstants.{PULSE_TABLE, SET_VOLUME, EFFECTS, OWN_TIMER, OWN_WAVE}
+use Rattle.player_memory.specs.declared.conditions.TheConstants.{FUNK_TEMPO, VOICE_TWO, VOICE_THREE}
 use Rattle.kept_lines.specs.Starts.{start_of}
 use Rattle.kept_lines.specs.KeptLines.{keeps, kept_set}
 use Rattle.variable_places.specs.Places.{variable_count}
@@ -22,11 +23,11 @@ CodeTakesItsParts =
     length (code_parts asked o)
     ≡ code_takes (holds_in (kept_set asked o)) (start_of o) (variable_count (holds_in (kept_set asked o)))
 
--- the code is the part that each image has and the 58 others
+-- the code is the part that each image has and the 60 others
 abbrev pub PartsAddUp : Type 0
 PartsAddUp =
     (asked : ℕ) (o : Options) →
-    code_length asked o ≡ part_length asked o always + sum_by (part_length asked o) (range_with_len 0 58)
+    code_length asked o ≡ part_length asked o always + sum_by (part_length asked o) (range_with_len 0 60)
 
 -- a part whose condition doesn't hold has no bytes
 abbrev pub UnkeptPartsHaveNone : Type 0
@@ -43,12 +44,14 @@ abbrev pub PartsAreShort : Type 0
 PartsAreShort = (asked : ℕ) (o : Options) → AreShort asked o
 
 -- what stands in the place of lines that aren't kept: two bytes where no pulse program runs, two where no command sets
--- the volume, three where no effect runs, six where no two instruments differ in their gateoff timers, and three where
--- none do in their first waveforms
+-- the volume, three where no effect runs, six where no two instruments differ in their gateoff timers, three where none
+-- do in their first waveforms, and six where the first channel alone has something to play and the voices take no turns
+-- between two tempos
 abbrev pub in_place : (ℕ → Bool) → ℕ
 in_place holds =
     (if holds PULSE_TABLE then 0 else 2) + (if holds SET_VOLUME then 0 else 2) + (if holds EFFECTS then 0 else 3)
     + (if holds OWN_TIMER then 0 else 6) + (if holds OWN_WAVE then 0 else 3)
+    + (if holds FUNK_TEMPO || holds VOICE_TWO || holds VOICE_THREE then 0 else 6)
 
 -- the part that each image has is these, the variables, and 376 bytes with the zeros
 abbrev pub RestIsExact : Type 0
@@ -58,10 +61,11 @@ RestIsExact =
     ≡ 376 + variable_count (holds_in (kept_set asked o)) + in_place (holds_in (kept_set asked o))
 
 -- So it has no fewer than where the volume is set, instruments differ in their gateoff timers and in their first
--- waveforms, and nothing else is asked for; and no more than where all is but these three.
+-- waveforms, a second channel has something to play, and nothing else is asked for; and no more than where all is but
+-- these, a third channel and turns between two tempos.
 pub record RestIsWithin (asked : ℕ) (o : Options) : Type 0 where
   pub from : 443 ≤ part_length asked o always
-  pub to : part_length asked o always ≤ 496
+  pub to : part_length asked o always ≤ 502
 
 abbrev pub RestIsBounded : Type 0
 RestIsBounded = (asked : ℕ) (o : Options) → RestIsWithin asked o

@@ -15,7 +15,7 @@ use Rattle.player_memory.specs.declared.conditions.TheConstants.{WAVE_DELAY, SET
 use Rattle.player_memory.specs.declared.conditions.TheConstants.{NOTE_PULSE, NOTE_FILTER, NOTE_VIBRATO, VIBRATO_DELAY}
 use Rattle.player_memory.specs.declared.conditions.TheConstants.{ROW_COMMAND, SPECIAL_ROW, HELD_NOTE, SET_TEMPO}
 use Rattle.player_memory.specs.declared.conditions.TheConstants.{VOICE_TEMPO, COMMON_TEMPO, FUNK_TURNS, FUNK_CHOICE}
-use Rattle.player_memory.specs.declared.conditions.TheConstants.{OWN_TIMER, OWN_WAVE, SUBTUNES}
+use Rattle.player_memory.specs.declared.conditions.TheConstants.{OWN_TIMER, OWN_WAVE, SUBTUNES, FUNK_TEMPO, VOICE_TWO, VOICE_THREE}
 use Rattle.image_parts.specs.CodeParts.{always, part_length, code_length}
 use Rattle.image_parts.specs.Lengths.{slide_bytes, read_bytes, frequency_bytes, image_length}
 
@@ -24,7 +24,7 @@ abbrev pub every_feature : ℕ
 every_feature = 2 ^ 24 - 1
 
 abbrev pub every_fact : ℕ
-every_fact = 2 ^ 53 - 2 ^ 34
+every_fact = 2 ^ 55 - 2 ^ 34
 
 -- how many bytes a part takes in a song that asks for all of them, with all options
 abbrev pub all_parts : ℕ → ℕ
@@ -50,33 +50,39 @@ with_tempos = part_length (2 ^ ROW_ONCE + 2 ^ SET_TEMPO + 2 ^ VOICE_TEMPO + 2 ^ 
 -- in common with others.
 pub record PartsAreMeasured : Type 0 where
   pub features : map all_parts (range_with_len 0 24)
-      ≡ 16 ∷ 21 ∷ 4 ∷ 4 ∷ 52 ∷ 4 ∷ 0 ∷ 23 ∷ 79 ∷ 14 ∷ 14 ∷ 14 ∷ 7 ∷ 90 ∷ 24 ∷ 76 ∷ 24 ∷ 28 ∷ 14 ∷ 30 ∷ 21 ∷ 4 ∷ 45
-      ∷ 80 ∷ []
+      ≡ 16 ∷ 21 ∷ 4 ∷ 4 ∷ 52 ∷ 4 ∷ 0 ∷ 23 ∷ 79 ∷ 14 ∷ 14 ∷ 14
+      ∷ 7 ∷ 90 ∷ 24 ∷ 76 ∷ 24 ∷ 28 ∷ 14 ∷ 30 ∷ 21 ∷ 4 ∷ 45 ∷ 80 ∷ []
   pub options : map all_parts (range_with_len 24 4) ≡ 13 ∷ 6 ∷ 10 ∷ 37 ∷ []
   pub common : map all_parts (range_with_len 28 6) ≡ 43 ∷ 10 ∷ 10 ∷ 17 ∷ 17 ∷ 3 ∷ []
-  pub facts : map all_parts (range_with_len 34 19)
-      ≡ 19 ∷ 9 ∷ 11 ∷ 6 ∷ 2 ∷ 2 ∷ 27 ∷ 12 ∷ 6 ∷ 6 ∷ 13 ∷ 13 ∷ 18 ∷ 15 ∷ 17 ∷ 36 ∷ 17 ∷ 3 ∷ 20 ∷ []
-  pub common_facts : map all_parts (range_with_len 53 5) ≡ 24 ∷ 4 ∷ 7 ∷ 28 ∷ 9 ∷ []
-  pub no_more : all_parts 58 ≡ 0
+  pub facts : map all_parts (range_with_len 34 21)
+      ≡ 19 ∷ 9 ∷ 11 ∷ 6 ∷ 2 ∷ 2 ∷ 27 ∷ 12 ∷ 6 ∷ 6 ∷ 13 ∷ 13
+      ∷ 18 ∷ 15 ∷ 17 ∷ 36 ∷ 17 ∷ 3 ∷ 20 ∷ 0 ∷ 0 ∷ []
+  pub common_facts : map all_parts (range_with_len 55 5) ≡ 24 ∷ 4 ∷ 7 ∷ 28 ∷ 9 ∷ []
+  pub no_more : all_parts 60 ≡ 0
   pub rest : all_parts always ≡ 489
-  pub least_rest : part_length (2 ^ SET_VOLUME + 2 ^ OWN_TIMER + 2 ^ OWN_WAVE) no_options always ≡ 443
-  pub most_rest : part_length (every_feature - 2 ^ SET_VOLUME + every_fact - 2 ^ OWN_TIMER - 2 ^ OWN_WAVE)
-      (all_left_out 4) always ≡ 496
+  pub least_rest : part_length (2 ^ SET_VOLUME + 2 ^ OWN_TIMER + 2 ^ OWN_WAVE + 2 ^ VOICE_TWO) no_options always ≡ 443
+  pub most_rest : part_length (every_feature - 2 ^ SET_VOLUME - 2 ^ FUNK_TEMPO + every_fact - 2 ^ OWN_TIMER - 2 ^ OWN_WAVE
+      - 2 ^ VOICE_TWO - 2 ^ VOICE_THREE) (all_left_out 4) always ≡ 502
   pub whole : code_length (every_feature + every_fact) (all_left_out 4) ≡ 1667
   -- the features without the facts, and these without the features
   pub no_fact : code_length every_feature (all_left_out 4) ≡ 1290
   pub no_feature : code_length every_fact no_options ≡ 719
   -- none is kept, and nothing else can be asked for
-  pub bare : code_length 0 no_options ≡ 453
-  pub bare_rest : part_length 0 no_options always ≡ 453
-  pub ntsc : code_length 0 (record no_options { system = Ntsc }) ≡ 453
-  pub no_others : code_length (2 ^ 24 + 2 ^ 28 + 2 ^ 33 + 2 ^ 53 + 2 ^ 56 + 2 ^ 58) no_options ≡ 453
+  pub bare : code_length 0 no_options ≡ 459
+  pub bare_rest : part_length 0 no_options always ≡ 459
+  pub ntsc : code_length 0 (record no_options { system = Ntsc }) ≡ 459
+  pub no_others : code_length (2 ^ 24 + 2 ^ 28 + 2 ^ 33 + 2 ^ 55 + 2 ^ 58 + 2 ^ 60) no_options ≡ 459
   -- one is kept alone; commands that are done once take nothing where no row has one, nor their tempos, and delays
   -- little without a wave program
   pub alone : map alone_part (range_with_len 0 24)
-      ≡ 16 ∷ 21 ∷ 4 ∷ 4 ∷ 52 ∷ 4 ∷ 0 ∷ 23 ∷ 3 ∷ 0 ∷ 0 ∷ 0 ∷ 0 ∷ 90 ∷ 0 ∷ 76 ∷ 0 ∷ 0 ∷ 0 ∷ 8 ∷ 21 ∷ 0 ∷ 45 ∷ 69 ∷ []
-  pub alone_facts : map alone_part (range_with_len 34 19)
-      ≡ 19 ∷ 9 ∷ 11 ∷ 6 ∷ 2 ∷ 2 ∷ 5 ∷ 12 ∷ 0 ∷ 6 ∷ 13 ∷ 13 ∷ 0 ∷ 0 ∷ 0 ∷ 0 ∷ 14 ∷ 3 ∷ 20 ∷ []
+      ≡ 16 ∷ 21 ∷ 4 ∷ 4 ∷ 52 ∷ 4 ∷ 0 ∷ 23 ∷ 3 ∷ 0 ∷ 0 ∷ 0
+      ∷ 0 ∷ 90 ∷ 0 ∷ 76 ∷ 0 ∷ 0 ∷ 0 ∷ 8 ∷ 21 ∷ 0 ∷ 45 ∷ 69 ∷ []
+  pub alone_facts : map alone_part (range_with_len 34 21)
+      ≡ 19 ∷ 9 ∷ 11 ∷ 6 ∷ 2 ∷ 2 ∷ 5 ∷ 12 ∷ 0 ∷ 6 ∷ 13 ∷ 13
+      ∷ 0 ∷ 0 ∷ 0 ∷ 0 ∷ 14 ∷ 3 ∷ 20 ∷ 7 ∷ 7 ∷ []
+  -- a channel that has something to play is told from one that hasn't, but where the voices take turns between two tempos
+  pub two_turns : part_of_both VOICE_TWO FUNK_TEMPO VOICE_TWO ≡ 0
+  pub three_turns : part_of_both VOICE_THREE FUNK_TEMPO VOICE_THREE ≡ 0
   pub swings : part_of VIBRATO SWINGS ≡ 34
   pub slide_common : part_of ROW_SLIDE ROW_COMMAND ≡ 24
   pub once_common : part_of ROW_ONCE ROW_COMMAND ≡ 24
@@ -154,12 +160,12 @@ pub record IsPackedSilence (packed : PackedSong) : Type 0 where
   pub numbers : packed.numbers ≡ record { first = 0; count = 0 }
 
 -- 16 of the packed song's 28 bytes, since of its instrument nothing but its envelope and its wave program is read, and
--- the addresses of its orderlists stand nowhere, and two for the one gateoff timer and the one first waveform, 453 of
+-- the addresses of its orderlists stand nowhere, and two for the one gateoff timer and the one first waveform, 459 of
 -- each player, and 6 for the mask; 6, 10 and 40 more where all four options are on, since no command runs that the first
 -- would leave out
 pub record SilenceIsMeasured (packed : PackedSong) : Type 0 where
-  pub with_none : image_length packed no_options ≡ 477
-  pub with_all : image_length packed (all_left_out 4) ≡ 533
+  pub with_none : image_length packed no_options ≡ 483
+  pub with_all : image_length packed (all_left_out 4) ≡ 539
 
 abbrev pub SilencesAreMeasured : Type 0
 SilencesAreMeasured = (packed : PackedSong) → IsPackedSilence packed → SilenceIsMeasured packed
@@ -167,7 +173,7 @@ SilencesAreMeasured = (packed : PackedSong) → IsPackedSilence packed → Silen
 -- ---- a note
 
 -- a song of one note, which has a wave and a pulse program, and of a keyoff: 31 of its 42 bytes, and the two for all
--- instruments, the 453 but the 2 that stand for a width, 18 more of variables, and 45, 90, 12 and 13 of the parts for
+-- instruments, the 459 but the 2 that stand for a width, 18 more of variables, and 45, 90, 12 and 13 of the parts for
 -- these and for the instrument's pulse program; two of the frequency of number 48, and a gap of 13 in front of it,
 -- behind 35 bytes
 pub record IsPlayedNote (packed : PackedSong) : Type 0 where
@@ -177,8 +183,8 @@ pub record IsPlayedNote (packed : PackedSong) : Type 0 where
   pub numbers : packed.numbers ≡ record { first = 48; count = 1 }
 
 pub record NoteIsMeasured (packed : PackedSong) : Type 0 where
-  pub with_none : image_length packed no_options ≡ 677
-  pub with_all : image_length packed (all_left_out 4) ≡ 733
+  pub with_none : image_length packed no_options ≡ 683
+  pub with_all : image_length packed (all_left_out 4) ≡ 739
 
 abbrev pub NotesAreMeasured : Type 0
 NotesAreMeasured = (packed : PackedSong) → IsPlayedNote packed → NoteIsMeasured packed

@@ -1,7 +1,7 @@
 //! How long an image is, and whose each byte of its code is.
 //!
 //! A part of the player is a condition: 0 to 23 are the features of a song, 24 to 27 the options, 28 to 33 what several
-//! features have in common, 34 to 52 the song's facts, and 53 to 57 what several facts or features have in common. Part
+//! features have in common, 34 to 54 the song's facts, and 55 to 59 what several facts or features have in common. Part
 //! 255 is what every image has: the jumps, the variables, the code under no condition, what stands in the place of
 //! lines that aren't kept, and two zeros among the lists.
 //!

@@ -20,7 +20,7 @@ use Rattle.song_facts.specs.declared.facts.Fact.TheVariants.{NoHardRestart}
 use Rattle.song_facts.specs.declared.facts.Fact.TheVariants.{WaveDelay, GateNote, NoteVibrato, VibratoDelay, NotePulse}
 use Rattle.song_facts.specs.declared.facts.Fact.TheVariants.{NoteFilter}
 use Rattle.song_facts.specs.declared.facts.Fact.TheVariants.{VoiceTempo, CommonTempo, FunkTurns, FunkChoice}
-use Rattle.song_facts.specs.declared.facts.Fact.TheVariants.{OwnTimer, OwnWave, Subtunes}
+use Rattle.song_facts.specs.declared.facts.Fact.TheVariants.{OwnTimer, OwnWave, Subtunes, VoiceTwo, VoiceThree}
 use Rattle.song_facts.specs.declared.facts.Facts.{Facts}
 use Rattle.song_facts.specs.Facts.{is_among}
 use Rattle.play_model.specs.declared.options.Options.{Options}
@@ -31,7 +31,7 @@ use Rattle.player_memory.specs.declared.conditions.TheConstants.{ROW_TONE, ROW_S
 use Rattle.player_memory.specs.declared.conditions.TheConstants.{NO_HARD_RESTART, WAVE_DELAY, GATE_NOTE, ROW_COMMAND}
 use Rattle.player_memory.specs.declared.conditions.TheConstants.{NOTE_VIBRATO, VIBRATO_DELAY, NOTE_PULSE, NOTE_FILTER}
 use Rattle.player_memory.specs.declared.conditions.TheConstants.{VOICE_TEMPO, COMMON_TEMPO, FUNK_TURNS, FUNK_CHOICE}
-use Rattle.player_memory.specs.declared.conditions.TheConstants.{OWN_TIMER, OWN_WAVE, SUBTUNES}
+use Rattle.player_memory.specs.declared.conditions.TheConstants.{OWN_TIMER, OWN_WAVE, SUBTUNES, VOICE_TWO, VOICE_THREE}
 use Rattle.player_memory.specs.declared.conditions.TheConstants.{SPECIAL_ROW, HELD_NOTE, WAVE_COMMAND, EFFECTS}
 use Rattle.player_memory.specs.declared.conditions.TheConstants.{FILTER_USED}
 use Rattle.player_memory.specs.declared.conditions.TheConstants.{FILTER_TABLE, SET_FILTER_CONTROL, SET_CUTOFF}
@@ -100,6 +100,8 @@ had features facts options FunkChoice = asked_is_exact features facts FUNK_CHOIC
 had features facts options OwnTimer = asked_is_exact features facts OWN_TIMER
 had features facts options OwnWave = asked_is_exact features facts OWN_WAVE
 had features facts options Subtunes = asked_is_exact features facts SUBTUNES
+had features facts options VoiceTwo = asked_is_exact features facts VOICE_TWO
+had features facts options VoiceThree = asked_is_exact features facts VOICE_THREE
 
 -- either of two
 or_first : (z y : Bool) → z ≡ true → (z || y) ≡ true

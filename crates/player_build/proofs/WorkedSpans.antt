@@ -98,7 +98,7 @@ spans_are_worked = record {
 
 -- the numbers between which the lists stand
 record Ends (packed : PackedSong) : Type 0 where
-  code : code_length (asked_by packed) no_options ≡ 604
+  code : code_length (asked_by packed) no_options ≡ 610
   speeds : length packed.speed ≡ 2
 
 -- what the song asks for, and how long its code is
@@ -109,7 +109,7 @@ asked_alone : asked 0x402000 no_facts ≡ 0x402000
 unfolding asked
 asked_alone = refl
 
-code_is : code_length 0x402000 no_options ≡ 604
+code_is : code_length 0x402000 no_options ≡ 610
 unfolding kept_set voice_rows shared_rows asks has_byte voice_labels other_labels free_places funk_place variable_count
 code_is = refl
 
@@ -119,7 +119,7 @@ ends_of packed is = record {
   speeds = is.speed;
 }
 
-not_listed : (packed : PackedSong) → Ends packed → (byte : ℕ) → (byte < 603) ⊎ (605 ≤ byte) → byte < 606 →
+not_listed : (packed : PackedSong) → Ends packed → (byte : ℕ) → (byte < 609) ⊎ (611 ≤ byte) → byte < 612 →
     ¬ IsOfLists packed no_options byte
 not_listed packed ends byte outside below (inl speeds) =
     let code = ends.code in
@@ -134,7 +134,7 @@ not_listed packed ends byte outside below (inr behind) =
     let rows = ends.speeds in
     omega (arith, code, rows, behind, below)
 
-speed_listed : (packed : PackedSong) → Ends packed → (byte : ℕ) → 603 ≤ byte → byte < 605 →
+speed_listed : (packed : PackedSong) → Ends packed → (byte : ℕ) → 609 ≤ byte → byte < 611 →
     IsOfLists packed no_options byte
 speed_listed packed ends byte from to =
     let code = ends.code in
@@ -144,11 +144,11 @@ speed_listed packed ends byte from to =
 pub two_speeds_are_worked : TwoSpeedsAreWorked
 two_speeds_are_worked packed is =
     let ends = ends_of packed is in record {
-      last_code = not_listed packed ends 601 (inl (omega arith)) (omega arith);
-      first_zero = not_listed packed ends 602 (inl (omega arith)) (omega arith);
-      first_speed = speed_listed packed ends 603 (omega arith) (omega arith);
-      last_speed = speed_listed packed ends 604 (omega arith) (omega arith);
-      second_zero = not_listed packed ends 605 (inr (omega arith)) (omega arith);
+      last_code = not_listed packed ends 607 (inl (omega arith)) (omega arith);
+      first_zero = not_listed packed ends 608 (inl (omega arith)) (omega arith);
+      first_speed = speed_listed packed ends 609 (omega arith) (omega arith);
+      last_speed = speed_listed packed ends 610 (omega arith) (omega arith);
+      second_zero = not_listed packed ends 611 (inr (omega arith)) (omega arith);
       behind = (let code = ends.code in let rows = ends.speeds in inr (omega (arith, code, rows)));
       no_spans = λ size some names.
           none_there ((names.named 0 some).1 (not_listed packed ends 0 (inl (omega arith)) (omega arith)));

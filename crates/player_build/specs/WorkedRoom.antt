@@ -4,13 +4,13 @@ use Rattle.packed_form.specs.declared.packed_songs.PackedSong.{PackedSong}
 use Rattle.image_parts.specs.WorkedLengths.{IsPlayedNote}
 use Rattle.player_build.specs.Room.{IsTooLarge}
 
--- $CD5B and 677 bytes are $D000; the last page from which the image has room is $CD00; and its length is told
+-- $CD55 and 683 bytes are $D000; the last page from which the image has room is $CD00; and its length is told
 pub record NoteHasRoom (packed : PackedSong) : Type 0 where
-  pub just : IsTooLarge packed no_options 0xCD5B 677 → ⊥
-  pub past : IsTooLarge packed no_options 0xCD5C 677
-  pub last_page : IsTooLarge packed no_options 0xCD00 677 → ⊥
-  pub next_page : IsTooLarge packed no_options 0xCE00 677
-  pub other_length : IsTooLarge packed no_options 0xCE00 678 → ⊥
+  pub just : IsTooLarge packed no_options 0xCD55 683 → ⊥
+  pub past : IsTooLarge packed no_options 0xCD56 683
+  pub last_page : IsTooLarge packed no_options 0xCD00 683 → ⊥
+  pub next_page : IsTooLarge packed no_options 0xCE00 683
+  pub other_length : IsTooLarge packed no_options 0xCE00 684 → ⊥
 
 abbrev pub NotesHaveRoom : Type 0
 NotesHaveRoom = (packed : PackedSong) → IsPlayedNote packed → NoteHasRoom packed

@@ -50,7 +50,7 @@ pub record SpansAreWorked : Type 0 where
 
 -- ---- the lists of an image
 
--- wave and pulse programs, two rows in the speed table, and no fact: the code takes 604 bytes with the zeros
+-- wave and pulse programs, two rows in the speed table, and no fact: the code takes 610 bytes with the zeros
 pub record HasTwoSpeeds (packed : PackedSong) : Type 0 where
   pub features : packed.features.0 ≡ 0x402000
   pub facts : packed.facts ≡ no_facts
@@ -58,12 +58,12 @@ pub record HasTwoSpeeds (packed : PackedSong) : Type 0 where
 
 -- behind the first zero two bytes are of the lists, the second zero isn't, and all behind it are
 pub record ListsAreWorked (packed : PackedSong) : Type 0 where
-  pub last_code : ¬ IsOfLists packed no_options 601
-  pub first_zero : ¬ IsOfLists packed no_options 602
-  pub first_speed : IsOfLists packed no_options 603
-  pub last_speed : IsOfLists packed no_options 604
-  pub second_zero : ¬ IsOfLists packed no_options 605
-  pub behind : IsOfLists packed no_options 606
+  pub last_code : ¬ IsOfLists packed no_options 607
+  pub first_zero : ¬ IsOfLists packed no_options 608
+  pub first_speed : IsOfLists packed no_options 609
+  pub last_speed : IsOfLists packed no_options 610
+  pub second_zero : ¬ IsOfLists packed no_options 611
+  pub behind : IsOfLists packed no_options 612
   -- no spans name the parts of an image, and none that reach behind it
   pub no_spans : (size : ℕ) → 0 < size → ¬ NamesParts packed no_options size []
   pub too_long : (size : ℕ) (span : PartSpan) (rest : List PartSpan) → size < span.start + span.length →

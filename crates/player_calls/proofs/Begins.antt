@@ -36,7 +36,7 @@ use Rattle.init_code.specs.InitBlock.{IsOutOf}
 use Rattle.player_memory.specs.Holds.{order_label}
 use Rattle.frame_code.specs.InitBlock.{BeginsSubtunes, ReadsOffTimer, ClearsVariables, HaveOrders, BeginsSubtune}
 use Rattle.kept_lines.specs.Starts.{start_of}
-use Rattle.frame_code.proofs.Laws.{beginnings_start, lists_at}
+use Rattle.frame_code.proofs.Laws.{beginnings_start, lists_at, held_start}
 use Rattle.player_code.specs.CodeLines.{init_entrance, cleared_of}
 use Rattle.player_code.specs.Plans.{Plan, plan_layout, its_init, play_listed, init_listed}
 use Rattle.player_code.proofs.Laws.{entrances_are_in_one_listing, labels_stand_in_place, size_is}
@@ -378,6 +378,7 @@ init_ready {packed = packed} {o = o} plan p k machine its_play its_init begun r 
       init_code = code_stays (init_listed plan) (init_listed plan) machine k well.init well.init r
           (λ q is. init_apart plan p q (init_code plan p q is)) its_init;
       holds = λ which.
-          subst (λ at. Spared plan packed k (start_state o) at which) (sym (init_memory plan p machine k r))
-          (begun.holds which);
+          subst (λ x. Spared plan packed k x (slice_index r.after.memory) which) (sym (held_start plan.holds o))
+          (subst (λ at. Spared plan packed k (start_state o) at which) (sym (init_memory plan p machine k r))
+          (begun.holds which));
     }

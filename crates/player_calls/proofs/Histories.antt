@@ -18,6 +18,7 @@ use Rattle.faithful.specs.Faithful.{AgreesOn}
 use Rattle.faithful.specs.Histories.{ImageCall, Init, Play, LeadTo, since_init}
 use Rattle.scope_calls.specs.EntranceLaws.{Returns, AgreeOnListing}
 use Rattle.scope_calls.proofs.Laws.{code_is_shared}
+use Rattle.player_memory.specs.Holds.{held}
 use Rattle.player_code.specs.Plans.{Plan, plan_size, play_listed, init_listed}
 use Rattle.player_code.proofs.Laws.{listed_ends}
 use Rattle.player_calls.specs.Players.{IsPlayer}
@@ -70,7 +71,8 @@ ready_moved {packed = packed} {o = o} plan p k i before machine agrees ready =
       init_code = code_is_shared (init_listed plan) before machine well.init (init_agrees plan p before machine agrees)
           ready.init_code;
       holds = λ which.
-          moved plan p k (packed_state packed k o i) (slice_index before.memory) (slice_index machine.memory) which
+          moved plan p k (held plan.holds (packed_state packed k o i)) (slice_index before.memory)
+          (slice_index machine.memory) which
           (λ place may.
           agrees_at plan p before machine agrees place (read_from plan p place may) (read_low plan p place may))
           (ready.holds which);

@@ -15,7 +15,8 @@ use Rattle.packed_form.specs.StandsFor.{StandsFor}
 use Rattle.cpu6502.specs.declared.machine.Machine.{Machine}
 use Rattle.cpu6502.specs.Code.{Holds as HoldsBytes}
 use Rattle.asm6502.specs.Assembly.{assembled_bytes}
-use Rattle.frame_code.proofs.Laws.{begun_holds}
+use Rattle.player_memory.specs.Holds.{Holds}
+use Rattle.frame_code.proofs.Laws.{begun_holds, held_start}
 use Rattle.player_code.specs.Plans.{Plan, plan_lines}
 use Rattle.player_code.proofs.Laws.{assembled_code_stands}
 use Rattle.player_calls.specs.WideLayouts.{wide_layout, with_zeros}
@@ -97,6 +98,9 @@ loaded_ready {packed = packed} {song = song} {o = o} {bytes = bytes} plan p mach
       holds = λ which. record {
         memory = with_zeros which (slice_index machine.memory);
         same = λ place none. rw none refl;
-        holds = players_hold_the_start plan packed song o bytes which (slice_index machine.memory) p has;
+        holds = subst
+            (λ x. Holds (wide_layout plan which) packed 0 x (with_zeros which (slice_index machine.memory)))
+            (sym (held_start plan.holds o))
+            (players_hold_the_start plan packed song o bytes which (slice_index machine.memory) p has);
       };
     }

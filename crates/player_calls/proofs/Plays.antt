@@ -25,7 +25,7 @@ use Rattle.scope_calls.specs.EntranceLaws.{Returns}
 use Rattle.scope_calls.proofs.Laws.{entrances_return, code_stays}
 use Rattle.player_memory.specs.Rooms.{IsElsewhere, IsRoom}
 use Rattle.player_memory.specs.SongLists.{slide_rows}
-use Rattle.player_memory.specs.Holds.{Holds}
+use Rattle.player_memory.specs.Holds.{Holds, held}
 use Rattle.frame_code.specs.FrameBlock.{PlaysFrames, Frames, ReadsOffStack}
 use Rattle.frame_code.proofs.Laws.{frames_play}
 use Rattle.frame_scenes.proofs.Laws.{packed_frames_are_ready}
@@ -38,11 +38,11 @@ use Rattle.player_calls.proofs.Wide.{in_spare, no_spare, read_behind, Narrowed, 
 use Rattle.player_calls.proofs.Spared.{Spared, moved, with_memory, same_but}
 use Rattle.player_calls.proofs.Places.{well_entered, play_apart, play_code, init_code}
 
--- a memory in which a player goes on: its code stands, and a state
+-- a memory in which a player goes on: its code stands, and a state, but voices that aren't run as they start
 pub record Ready (plan : Plan) (packed : PackedSong) (k : ℕ) (x : FrameState) (at : ℕ → ℕ) : Type 0 where
   pub play_code : HasCode (play_listed plan) at
   pub init_code : HasCode (init_listed plan) at
-  pub holds : (which : Bool) → Spared plan packed k x at which
+  pub holds : (which : Bool) → Spared plan packed k (held plan.holds x) at which
 
 -- ---- the memory as a call begins
 
@@ -120,7 +120,8 @@ play_is plan = record { first = refl; voice = refl }
 pub record Played (plan : Plan) (packed : PackedSong) (o : Options) (k : ℕ) (x : FrameState) (before : Desk) (run : Ran)
     : Type 0 where
   pub ends : run.outcome ≡ Done
-  pub holds : (which : Bool) → Spared plan packed k (frame_with o (unpacked_song packed) k x).state run.desk.at which
+  pub holds : (which : Bool) →
+      Spared plan packed k (held plan.holds (frame_with o (unpacked_song packed) k x).state) run.desk.at which
   pub registers : (register : ℕ) → register < 25 →
       run.desk.at (0xD400 + register) ≡ slice_index (frame_with o (unpacked_song packed) k x).registers register
   pub behind : (place : ℕ) → 0xDC04 ≤ place → run.desk.at place ≡ before.at place
@@ -143,9 +144,11 @@ module _ {packed : PackedSong} {song : Song} {o : Options} {bytes : List ℕ} (p
     (below : k < length packed.subtunes)
     (ready : Ready plan packed k (packed_state packed k o i) (slice_index machine.memory)) where
   -- the state as the call begins, with spare bytes
-  spared : (which : Bool) → Spared plan packed k (packed_state packed k o i) (play_desk plan machine number).at which
+  spared : (which : Bool) →
+      Spared plan packed k (held plan.holds (packed_state packed k o i)) (play_desk plan machine number).at which
   spared which =
-      moved plan p k (packed_state packed k o i) (slice_index machine.memory) (play_desk plan machine number).at which
+      moved plan p k (held plan.holds (packed_state packed k o i)) (slice_index machine.memory)
+      (play_desk plan machine number).at which
       (λ place may. entry_same plan p machine (plan.origin + 3) number is.size place may) (ready.holds which)
 
   wide_desk : Bool → Desk
@@ -157,12 +160,13 @@ module _ {packed : PackedSong} {song : Song} {o : Options} {bytes : List ℕ} (p
       (entrance_ran (wide_layout plan which) (its_play plan) (wide_desk which))
   unfolding wide_desk spared
   frames which =
-      let held : Holds (wide_layout plan which) packed k (packed_state packed k o i) (spared which).memory =
+      let stands : Holds (wide_layout plan which) packed k (held plan.holds (packed_state packed k o i))
+      (spared which).memory =
       (spared which).holds in
       frames_play (wide_layout plan which) packed o k (packed_state packed k o i) (its_play plan) (wide_desk which)
-      (play_is plan) (p.laid which) (wide_off_stack plan p which) held
+      (play_is plan) (p.laid which) (wide_off_stack plan p which) stands
       (packed_frames_are_ready (wide_layout plan which) packed song o k i (spared which).memory p.stands p.short
-      (p.laid which) held.lists p.features p.facts p.alone (p.shared which) (p.held which) (p.options which)
+      (p.laid which) stands.lists p.features p.facts p.alone (p.shared which) (p.held which) (p.options which)
       (p.common which) below p.speed)
 
   narrow : Narrowed plan (its_play plan) (play_desk plan machine number) wide_desk
@@ -260,6 +264,7 @@ play_ready {packed = packed} {o = o} plan p k i machine number ready frames r =
           (λ q is. play_apart plan p q (init_code plan p q is)) ready.init_code;
       holds = λ which.
           subst
-          (λ at. Spared plan packed k (frame_with o (unpacked_song packed) k (packed_state packed k o i)).state at which)
+          (λ at. Spared plan packed k
+          (held plan.holds (frame_with o (unpacked_song packed) k (packed_state packed k o i)).state) at which)
           (sym (play_memory plan p machine number r)) (frames.holds which);
     }

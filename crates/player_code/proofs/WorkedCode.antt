@@ -12,8 +12,6 @@ use Rattle.asm6502.specs.declared.lines.Item.TheVariants.{Label}
 use Rattle.asm6502.specs.declared.lines.Line.{Line}
 use Rattle.asm6502.specs.Stretches.{IsNamedAlways}
 use Rattle.scope_lines.specs.Instructions.{code}
-use Rattle.scope_lines.proofs.Laws.{sizes_are_bounded}
-use Rattle.player_text.specs.Texts.{filter_tree, voice_tree, init_tree}
 use Rattle.player_text.specs.Facts.{is_list, is_filter_list, is_order_list}
 use Rattle.player_text.proofs.Laws.{are_measured}
 use Rattle.player_memory.specs.declared.labels.TheConstants.{VARIABLES, FIRST_CLEARED, LENT, FREQUENCY_LOWS, ONE_WAVE}
@@ -169,12 +167,11 @@ sums : (all variables filter voice init n f v i : ℕ) → all ≡ 22 + n + f + 
     v ≡ voice → i ≡ init → all ≡ 22 + variables + filter + voice + init
 sums all variables filter voice init n f v i e count one two three = omega (arith, e, count, one, two, three)
 
-bounds : (all n f v i mf mv mi : ℕ) → all ≡ 22 + n + f + v + i → n ≤ 113 → f ≤ mf → v ≤ mv → i ≤ mi → mf ≡ 102 →
-    mv ≡ 1336 → mi ≡ 92 → all ≤ 1665
-bounds all n f v i mf mv mi e few one two three four five six = omega (arith, e, few, one, two, three, four, five, six)
+bounds : (all n f v i : ℕ) → all ≡ 22 + n + f + v + i → n ≤ 113 → f ≤ 102 → v ≤ 1336 → i ≤ 92 → all ≤ 1665
+bounds all n f v i e few one two three = omega (arith, e, few, one, two, three)
 
 bare : (places : ℕ → ℕ) (variables : ℕ) →
-    code_size (plan_with places variables (λ condition. false)) ≡ 22 + variables + 16 + 306 + 46
+    code_size (plan_with places variables (λ condition. false)) ≡ 22 + variables + 16 + 312 + 46
 bare places variables =
     let plan = plan_with places variables (λ condition. false) in
     let init = are_measured.init plan.start (cleared_of (length plan.variables)) in
@@ -196,10 +193,9 @@ code_is_measured = record {
   small_bare = bare (λ label. label - 33) 80;
   small_full = full (λ label. label - 33) 80;
   most = λ plan is.
-      bounds _ _ _ _ _ _ _ _ (takes plan) is.variables_high (sizes_are_bounded plan.holds filter_tree)
-      (sizes_are_bounded plan.holds voice_tree)
-      (sizes_are_bounded plan.holds (init_tree plan.start (cleared_of (length plan.variables)))) are_measured.filter.takes_most
-      are_measured.voice.takes_most (are_measured.init plan.start (cleared_of (length plan.variables))).takes_most;
+      bounds _ _ _ _ _ (takes plan) is.variables_high (are_measured.filter.takes_most plan.holds)
+      (are_measured.voice.takes_most plan.holds)
+      ((are_measured.init plan.start (cleared_of (length plan.variables))).takes_most plan.holds);
 }
 
 -- ---- no lists

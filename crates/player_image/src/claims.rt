@@ -25,8 +25,8 @@ pub fn systems_share_images()
     ensures worked { TimerCodesAreWorked }
 {}
 
-/// Bytes in the order of their places; variables without a pattern, and some with one; and where the blocks of an image at `$1000` may read and write, and where they may
-/// not.
+/// Bytes in the order of their places; variables without a pattern, and some with one; and where the blocks of an image
+/// at `$1000` may read and write, and where they may not.
 pub fn worked_places()
     ensures bytes { BytesArePlaced }
     ensures patterns { PatternsAreDenied }
