@@ -82,8 +82,8 @@ pub parts_add_up : PartsAddUp
 parts_add_up asked options =
     image_parts.parts_add_up asked options
     ∙ ap (λ (bytes : ℕ). part_length asked options always + bytes)
-    (sym (dropped_sum (keeps asked options) (part_length asked options) (range_with_len 0 58)
-    (all_below (DropsNone (keeps asked options) (part_length asked options)) 58
+    (sym (dropped_sum (keeps asked options) (part_length asked options) (range_with_len 0 60)
+    (all_below (DropsNone (keeps asked options) (part_length asked options)) 60
     (λ part high out. image_parts.unkept_parts_have_none asked options part
     (λ is. omega (arith, high, is)) out))))
 

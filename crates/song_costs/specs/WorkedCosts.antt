@@ -50,12 +50,12 @@ note_costs = costs_of one_note (note_sets (0 ∷ 1 ∷ [])) (asked note_features
 
 -- three orderlists of one entry, whose addresses stand in no list, the patterns 01 90 BE 00 and C0 00, one instrument,
 -- of which neither a filter program nor a vibrato is read, and whose gateoff timer and first waveform stand for all,
--- two rows in each of two tables; 469 bytes of the player that each image has, 90 and 45 for a pulse and a wave
+-- two rows in each of two tables; 475 bytes of the player that each image has, 90 and 45 for a pulse and a wave
 -- program, 12 for a keyoff, and 13 for an instrument that begins a pulse program; and the frequency of number 48, with
 -- 35 bytes and a gap of thirteen in front of it
 pub record NoteIsWorked : Type 0 where
   pub each : note_costs ≡ record {
-    player = 629;
+    player = 635;
     orders = 9;
     patterns = 10;
     instruments = 6;
@@ -66,12 +66,12 @@ pub record NoteIsWorked : Type 0 where
     frequencies = 15;
   }
   pub bytes : data_bytes note_costs ≡ 48
-  pub all : all_bytes note_costs ≡ 677
+  pub all : all_bytes note_costs ≡ 683
   -- without the zeros, and with the frequency of the song's number alone
-  pub few : note_costs.player ≢ 627
+  pub few : note_costs.player ≢ 633
   pub alone : note_costs.frequencies ≢ 2
   -- without the facts
-  pub bare : (costs_of one_note (note_sets (0 ∷ 1 ∷ [])) note_features note_range no_options).player ≡ 604
+  pub bare : (costs_of one_note (note_sets (0 ∷ 1 ∷ [])) note_features note_range no_options).player ≡ 610
   -- an equal pattern is stored once, and a note for each of three orderlists isn't
   pub once : (costs_of two_rests (note_sets (0 ∷ 1 ∷ 2 ∷ [])) (asked note_features note_facts) note_range no_options).patterns
       ≡ 10
@@ -169,7 +169,7 @@ part_cost part bytes cause = record { part = part; bytes = bytes; cause = cause 
 
 -- the song has transposes, portamentos, and commands in its wave table, and a filter program; and rows with a command
 -- that runs, an instrument whose first waveform is 0 and one that begins the filter program, which has another gateoff
--- timer and another first waveform, a keyoff and a keyon
+-- timer and another first waveform, a keyoff and a keyon; and each channel has something to play
 abbrev pub crossing_features : ℕ
 crossing_features =
     2 ^ bit_of Transpose + 2 ^ bit_of PortaUp + 2 ^ bit_of FilterTable + 2 ^ bit_of WaveTable + 2 ^ bit_of WaveCommand
@@ -182,6 +182,8 @@ crossing_facts = record no_facts {
   note_filter = true;
   own_timer = true;
   own_wave = true;
+  voice_two = true;
+  voice_three = true;
 }
 
 abbrev pub crossing_asked : ℕ

@@ -1,7 +1,7 @@
 -- First places of parts that several features have in common, worked out by hand.
-use Rattle.std.proofs.Common.{◌≡◌, ℕ, zero, suc, ◌≤◌, [], ◌∷◌, true, false, Some, slice_get, lit<, lit≤}
+use Rattle.std.proofs.Common.{◌≡◌, ℕ, zero, suc, ◌≤◌, [], ◌∷◌, Bool, true, false, ◌||◌, Some, slice_get, lit<, lit≤}
 use Rattle.std.proofs.Common.{refl, sym, ◌∙◌, ap, subst, inl, inr, arith}
-use Rattle.std.proofs.lemmas.Bool.{cases_order, true≢false}
+use Rattle.std.proofs.lemmas.Bool.{cases_order, or_left, or_right, true≢false}
 use Rattle.base.proofs.Laws.{same_some}
 use Rattle.song_model.specs.declared.rows.Row.{Row}
 use Rattle.song_model.specs.declared.orders.Subtune.{Subtune}
@@ -22,7 +22,7 @@ use Rattle.song_facts.specs.declared.facts.Fact.{Fact}
 use Rattle.song_facts.specs.declared.facts.Fact.TheVariants.{RowTone, RowSlide, RowOnce, FirstMask, Legato, NoHardRestart}
 use Rattle.song_facts.specs.declared.facts.Fact.TheVariants.{WaveDelay, GateNote, NoteVibrato, VibratoDelay, NotePulse, NoteFilter}
 use Rattle.song_facts.specs.declared.facts.Fact.TheVariants.{VoiceTempo, CommonTempo, FunkTurns, FunkChoice}
-use Rattle.song_facts.specs.declared.facts.Fact.TheVariants.{OwnTimer, OwnWave, Subtunes}
+use Rattle.song_facts.specs.declared.facts.Fact.TheVariants.{OwnTimer, OwnWave, Subtunes, VoiceTwo, VoiceThree}
 use Rattle.player_memory.specs.declared.conditions.TheConstants.{SKIP_EFFECTS, CLIMB, FOUND_NOTE}
 use Rattle.player_memory.specs.FactLines.{fact_condition}
 use Rattle.song_places.specs.declared.places.Place.{Place}
@@ -40,31 +40,10 @@ use Rattle.song_places.proofs.WorkedPlaces.{used_pattern}
 -- no feature but two needs bytes of orderlists
 no_byte : (song : Song) (part : ℕ) (feature : Feature) → keeps_part (bit_of Transpose) part ≡ false →
     keeps_part (bit_of Repeat) part ≡ false → keeps_part (bit_of feature) part ≡ true →
-    (s b : ℕ) → ¬ (need_of song feature).byte s b
-no_byte song part Transpose transposed repeated kept s b meant = true≢false (sym kept ∙ transposed)
-no_byte song part Repeat transposed repeated kept s b meant = true≢false (sym kept ∙ repeated)
-no_byte song part PortaUp transposed repeated kept s b meant = meant
-no_byte song part PortaDown transposed repeated kept s b meant = meant
-no_byte song part TonePorta transposed repeated kept s b meant = meant
-no_byte song part TieNote transposed repeated kept s b meant = meant
-no_byte song part Vibrato transposed repeated kept s b meant = meant
-no_byte song part InstrumentVibrato transposed repeated kept s b meant = meant
-no_byte song part NoteDependent transposed repeated kept s b meant = meant
-no_byte song part SetAd transposed repeated kept s b meant = meant
-no_byte song part SetSr transposed repeated kept s b meant = meant
-no_byte song part SetWave transposed repeated kept s b meant = meant
-no_byte song part SetWavePointer transposed repeated kept s b meant = meant
-no_byte song part PulseTable transposed repeated kept s b meant = meant
-no_byte song part SetPulsePointer transposed repeated kept s b meant = meant
-no_byte song part FilterTable transposed repeated kept s b meant = meant
-no_byte song part SetFilterPointer transposed repeated kept s b meant = meant
-no_byte song part FilterControl transposed repeated kept s b meant = meant
-no_byte song part Cutoff transposed repeated kept s b meant = meant
-no_byte song part Volume transposed repeated kept s b meant = meant
-no_byte song part FunkTempo transposed repeated kept s b meant = meant
-no_byte song part SetTempo transposed repeated kept s b meant = meant
-no_byte song part WaveTable transposed repeated kept s b meant = meant
-no_byte song part WaveCommand transposed repeated kept s b meant = meant
+    (s c b : ℕ) → ¬ (need_of song feature).byte s c b
+no_byte song part Transpose transposed repeated kept s c b meant = true≢false (sym kept ∙ transposed)
+no_byte song part Repeat transposed repeated kept s c b meant = true≢false (sym kept ∙ repeated)
+no_byte song part feature transposed repeated kept s c b meant = meant
 
 -- and none a row that rests
 no_rest : (song : Song) (feature : Feature) → ¬ (need_of song feature).row rest_row
@@ -94,11 +73,21 @@ no_rest song SetTempo meant = (let e = meant.0 in omega arith)
 no_rest song WaveTable meant = meant.1 refl
 no_rest song WaveCommand meant = meant
 
--- no fact but that of several subtunes needs bytes of orderlists, and none a row that rests
-no_fact_byte : (song : Song) (part : ℕ) (fact : Fact) → keeps_part (fact_condition Subtunes) part ≡ false →
-    keeps_part (fact_condition fact) part ≡ true → (s b : ℕ) → ¬ (need_of_fact song fact).byte s b
-no_fact_byte song part Subtunes several kept s b meant = true≢false (sym kept ∙ several)
-no_fact_byte song part fact several kept s b meant = meant
+-- one of the three facts that need bytes of orderlists keeps the part
+abbrev pub kept_by_orders : ℕ → Bool
+kept_by_orders part =
+    keeps_part (fact_condition Subtunes) part || keeps_part (fact_condition VoiceTwo) part
+    || keeps_part (fact_condition VoiceThree) part
+
+-- no other fact needs them, and none a row that rests
+no_fact_byte : (song : Song) (part : ℕ) (fact : Fact) → kept_by_orders part ≡ false →
+    keeps_part (fact_condition fact) part ≡ true → (s c b : ℕ) → ¬ (need_of_fact song fact).byte s c b
+no_fact_byte song part Subtunes ordered kept s c b meant =
+    true≢false (sym (or_left _ _ (or_left _ _ kept)) ∙ ordered)
+no_fact_byte song part VoiceTwo ordered kept s c b meant =
+    true≢false (sym (or_left _ _ (or_right (keeps_part (fact_condition Subtunes) part) _ kept)) ∙ ordered)
+no_fact_byte song part VoiceThree ordered kept s c b meant = true≢false (sym (or_right _ _ kept) ∙ ordered)
+no_fact_byte song part fact ordered kept s c b meant = meant
 
 no_fact_rest : (song : Song) (fact : Fact) → ¬ (need_of_fact song fact).row rest_row
 no_fact_rest song RowTone meant = omega (arith, meant)
@@ -119,17 +108,19 @@ no_fact_rest song FunkChoice meant = omega (arith, meant)
 no_fact_rest song OwnTimer meant = meant
 no_fact_rest song OwnWave meant = meant
 no_fact_rest song Subtunes meant = meant
+no_fact_rest song VoiceTwo meant = meant
+no_fact_rest song VoiceThree meant = meant
 no_fact_rest song GateNote (inl off) = omega (arith, off)
 no_fact_rest song GateNote (inr on) = omega (arith, on)
 
 -- what stands in an orderlist, or in a pattern, where a part is needed
 byte_needed : (song : Song) (part s c i : ℕ) → keeps_part (bit_of Transpose) part ≡ false →
-    keeps_part (bit_of Repeat) part ≡ false → keeps_part (fact_condition Subtunes) part ≡ false →
+    keeps_part (bit_of Repeat) part ≡ false → kept_by_orders part ≡ false →
     ¬ NeedsFor song part (InOrder s c i)
-byte_needed song part s c i transposed repeated several (inl h) =
-    (let at = h.needs in no_byte song part h.feature transposed repeated h.is_kept s at.byte at.is_meant)
-byte_needed song part s c i transposed repeated several (inr h) =
-    (let at = h.needs in no_fact_byte song part h.fact several h.is_kept s at.byte at.is_meant)
+byte_needed song part s c i transposed repeated ordered (inl h) =
+    (let at = h.needs in no_byte song part h.feature transposed repeated h.is_kept s c at.byte at.is_meant)
+byte_needed song part s c i transposed repeated ordered (inr h) =
+    (let at = h.needs in no_fact_byte song part h.fact ordered h.is_kept s c at.byte at.is_meant)
 
 pattern_used : (song : Song) (part p i : ℕ) → NeedsFor song part (InPattern p i) → IsUsedPattern song p
 pattern_used song part p i (inl h) = (let at = h.needs in at.used)
@@ -178,12 +169,12 @@ is_reached song WaveCommand kept r meant = absurd meant
 
 -- where the first used pattern begins with a rest, nothing that a part may need comes before its second row
 pub second_row : (song : Song) (part p : ℕ) → keeps_part (bit_of Transpose) part ≡ false →
-    keeps_part (bit_of Repeat) part ≡ false → keeps_part (fact_condition Subtunes) part ≡ false →
+    keeps_part (bit_of Repeat) part ≡ false → kept_by_orders part ≡ false →
     ((q : ℕ) → IsUsedPattern song q → p ≤ q) → slice_get (pattern_at song p) 0 ≡ Some rest_row →
     (other : Place) → NeedsFor song part other → IsNotAfter (InPattern p 1) other
-second_row song part p transposed repeated several first_used rests (InOrder s c i) h =
-    absurd (byte_needed song part s c i transposed repeated several h)
-second_row song part p transposed repeated several first_used rests (InPattern q i) h =
+second_row song part p transposed repeated ordered first_used rests (InOrder s c i) h =
+    absurd (byte_needed song part s c i transposed repeated ordered h)
+second_row song part p transposed repeated ordered first_used rests (InPattern q i) h =
     elim (cases_order p q) [
       | inl same ↦
           in_first i (subst (λ (n : ℕ). IsNotAfter (InPattern p 1) (InPattern n i)) same)
@@ -200,16 +191,16 @@ second_row song part p transposed repeated several first_used rests (InPattern q
     in_first zero from other = absurd (other refl)
     in_first (suc zero) from other = from (begun (2 ∷ p ∷ 1 ∷ []) []).is
     in_first (suc (suc i)) from other = from (lower (2 ∷ p ∷ []) 1 (suc (suc i)) [] [] (omega arith)).is
-second_row song part p transposed repeated several first_used rests (InInstrument n) h = refl
-second_row song part p transposed repeated several first_used rests (InWaveTable n) h = refl
+second_row song part p transposed repeated ordered first_used rests (InInstrument n) h = refl
+second_row song part p transposed repeated ordered first_used rests (InWaveTable n) h = refl
 
 -- of the song whose first used pattern is 1
 pub crossing_first : (part : ℕ) → keeps_part (bit_of Transpose) part ≡ false → keeps_part (bit_of Repeat) part ≡ false →
-    keeps_part (fact_condition Subtunes) part ≡ false → NeedsFor crossing part (InPattern 1 1) →
+    kept_by_orders part ≡ false → NeedsFor crossing part (InPattern 1 1) →
     IsPartPlace crossing part (InPattern 1 1)
 unfolding pattern_at
-crossing_first part transposed repeated several needs =
-    record { is_such = needs; first = second_row crossing part 1 transposed repeated several from_one refl }
+crossing_first part transposed repeated ordered needs =
+    record { is_such = needs; first = second_row crossing part 1 transposed repeated ordered from_one refl }
   where
     from_one : (q : ℕ) → IsUsedPattern crossing q → 1 ≤ q
     from_one q used = elim (used_pattern q used) [ inl e ↦ omega (arith, e) | inr e ↦ omega (arith, e) ]
@@ -315,6 +306,8 @@ no_fact_reaches FunkChoice = refl
 no_fact_reaches OwnTimer = refl
 no_fact_reaches OwnWave = refl
 no_fact_reaches Subtunes = refl
+no_fact_reaches VoiceTwo = refl
+no_fact_reaches VoiceThree = refl
 
 none_in_zero : (i : ℕ) → ¬ NeedsFor (sliding 1 3) FOUND_NOTE (InPattern 0 i)
 none_in_zero i (inl h) = no_note_in_zero h.feature i h.is_kept h.needs

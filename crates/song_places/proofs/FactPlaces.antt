@@ -10,7 +10,7 @@ use Rattle.song_facts.specs.declared.facts.Fact.{Fact}
 use Rattle.song_facts.specs.declared.facts.Fact.TheVariants.{RowTone, RowSlide, RowOnce, FirstMask, Legato, NoHardRestart}
 use Rattle.song_facts.specs.declared.facts.Fact.TheVariants.{WaveDelay, GateNote, NoteVibrato, VibratoDelay, NotePulse, NoteFilter}
 use Rattle.song_facts.specs.declared.facts.Fact.TheVariants.{VoiceTempo, CommonTempo, FunkTurns, FunkChoice}
-use Rattle.song_facts.specs.declared.facts.Fact.TheVariants.{OwnTimer, OwnWave, Subtunes}
+use Rattle.song_facts.specs.declared.facts.Fact.TheVariants.{OwnTimer, OwnWave, Subtunes, VoiceTwo, VoiceThree}
 use Rattle.song_facts.specs.Facts.{IsTone, IsSlide, IsOnce, IsGateNote, IsMask, IsLegato, KeepsEnvelope, IsDelay}
 use Rattle.song_facts.specs.Facts.{HasVibrato, HasVibratoDelay, HasPulse, HasFilter, DifferInTimer, DifferInWave}
 use Rattle.song_facts.specs.Facts.{IsVoiceTempo, IsCommonTempo, IsFunkTurns, IsFunkChoice}
@@ -22,6 +22,7 @@ use Rattle.song_places.specs.Places.{IsNeededAt, NeedsFactAt}
 use Rattle.song_places.specs.PlaceLaws.{IsFactNeeded, FactsAreNeeded}
 use Rattle.song_places.proofs.FeaturePlaces.{row_to, row_from}
 use Rattle.song_places.proofs.SeveralSubtunes.{several_place, several_from}
+use Rattle.song_places.proofs.HeardBytes.{channel_two, channel_three, heard_place, heard_from}
 
 -- ---- two instruments
 
@@ -83,6 +84,8 @@ has_fact_place song FunkChoice h = row_place song FunkChoice h
 has_fact_place song OwnTimer h = instrument_place song OwnTimer (other_than_first song timer_of h)
 has_fact_place song OwnWave h = instrument_place song OwnWave (other_than_first song (λ i. i.first_wave) h)
 has_fact_place song Subtunes h = several_place song h
+has_fact_place song VoiceTwo h = heard_place song VoiceTwo 2 channel_two (λ s b names. (refl, names)) h
+has_fact_place song VoiceThree h = heard_place song VoiceThree 3 channel_three (λ s b names. (refl, names)) h
 
 -- ---- and from a place to what is had
 
@@ -130,6 +133,8 @@ has_fact song OwnTimer place at =
 has_fact song OwnWave place at =
     with_first song (λ i. i.first_wave) (instrument_had song (DifferInWave (instrument_at song 1)) place at)
 has_fact song Subtunes place at = several_from song place at
+has_fact song VoiceTwo place at = heard_from song 2 place at
+has_fact song VoiceThree place at = heard_from song 3 place at
 
 pub facts_are_needed : FactsAreNeeded
 facts_are_needed song fact =

@@ -16,7 +16,8 @@ use Rattle.song_model.specs.declared.features.Feature.TheVariants.{SetPulsePoint
 use Rattle.song_model.specs.declared.features.Feature.TheVariants.{FilterControl, Cutoff, Volume, FunkTempo, SetTempo}
 use Rattle.song_model.specs.declared.features.Feature.TheVariants.{WaveTable, WaveCommand}
 use Rattle.song_model.specs.declared.songs.Song.{Song}
-use Rattle.song_model.specs.LookUp.{is_playable_subtune, pattern_at, instrument_at, table_row, speed_row}
+use Rattle.song_model.specs.LookUp.{is_playable_subtune, playable_subtunes}
+use Rattle.song_model.specs.LookUp.{pattern_at, instrument_at, table_row, speed_row}
 use Rattle.song_model.specs.Pointers.{instrument_pointer}
 use Rattle.play_model.specs.Used.{IsPlayedOrder, IsUsedRow}
 use Rattle.play_model.specs.Reached.{IsPointer, of_instrument, of_row, of_played, of_wave_row}
@@ -33,15 +34,15 @@ record IsSomewhere (song : Song) (need : Need) : Type 0 where
   place : Place
   needed : IsNeededAt song need place
 
-item_at : {X : Type 0} (xs : List X) (x : X) → Contains xs x → (i : ℕ) × (i < length xs) × (slice_get xs i ≡ Some x)
+pub item_at : {X : Type 0} (xs : List X) (x : X) → Contains xs x → (i : ℕ) × (i < length xs) × (slice_get xs i ≡ Some x)
 item_at xs x (i, inside, is) = (i, inside, slice_get-get_or xs i x inside ∙ ap Some is)
 
-item_of : {X : Type 0} (xs : List X) (i : ℕ) (x : X) → slice_get xs i ≡ Some x → Contains xs x
+pub item_of : {X : Type 0} (xs : List X) (i : ℕ) (x : X) → slice_get xs i ≡ Some x → Contains xs x
 item_of xs i x there = (i, slice_get_within xs i x there, get_or_from_slice_get xs i x x there)
 
 -- ---- bytes of orderlists
 
-order_at : (song : Song) (order : Order) (played : IsPlayedOrder song order) →
+pub order_at : (song : Song) (order : Order) (played : IsPlayedOrder song order) →
     (s : ℕ) × HasOrder song s played.channel order
 order_at song order played =
     let kept = filter_of is_playable_subtune song.subtunes played.subtune played.playable in
@@ -57,11 +58,16 @@ order_at song order played =
       },
     )
 
+pub played_subtune : (song : Song) (s c : ℕ) (order : Order) (has : HasOrder song s c order) →
+    Contains (playable_subtunes song) has.subtune
+played_subtune song s c order has =
+    filter_keeps is_playable_subtune song.subtunes has.subtune
+    (item_of song.subtunes (s - 1) has.subtune has.subtune_is) has.playable
+
 order_from : (song : Song) (s c : ℕ) (order : Order) → HasOrder song s c order → IsPlayedOrder song order
 order_from song s c order has = record {
   subtune = has.subtune;
-  playable = filter_keeps is_playable_subtune song.subtunes has.subtune
-      (item_of song.subtunes (s - 1) has.subtune has.subtune_is) has.playable;
+  playable = played_subtune song s c order has;
   channel = c;
   is_channel = has.is_channel;
   order_is = has.order_is;

@@ -32,7 +32,7 @@ use Rattle.song_places.specs.WorkedPlaces.{crossing, sliding, FilterPlacesAreWor
 use Rattle.song_places.proofs.PartFeatures.{same_bit}
 use Rattle.song_places.proofs.KeptParts.{alone_is, not_both, same_condition}
 use Rattle.song_places.proofs.WorkedPlaces.{Fields, fields, used_row, tables_are_worked}
-use Rattle.song_places.proofs.CommonPlaces.{played_zero, played_next, second_row}
+use Rattle.song_places.proofs.CommonPlaces.{played_zero, played_next, kept_by_orders, second_row}
 
 -- ---- what sets the filter
 
@@ -94,12 +94,12 @@ crossing_filter = record {
 
 -- ---- rows
 
-second : (one two part : ℕ) → keeps_part 0 part ≡ false → keeps_part 1 part ≡ false → keeps_part 52 part ≡ false →
+second : (one two part : ℕ) → keeps_part 0 part ≡ false → keeps_part 1 part ≡ false → kept_by_orders part ≡ false →
     NeedsFor (sliding one two) part (InPattern 0 1) → IsPartPlace (sliding one two) part (InPattern 0 1)
 unfolding pattern_at
-second one two part transposed repeated several needs = record {
+second one two part transposed repeated ordered needs = record {
   is_such = needs;
-  first = second_row (sliding one two) part 0 transposed repeated several (λ q used. omega arith) refl;
+  first = second_row (sliding one two) part 0 transposed repeated ordered (λ q used. omega arith) refl;
 }
 
 cutoff_needs : NeedsFor (sliding 0xC 0xB) FILTER_USED (InPattern 0 1)

@@ -11,6 +11,7 @@ mod SongPlaces
 -- Features, facts and places.
 mod FeaturePlaces
 mod SeveralSubtunes
+mod HeardBytes
 mod FactPlaces
 mod OnePlace
 -- Parts and their places.
@@ -23,5 +24,6 @@ mod PartSteps
 mod WorkedPlaces
 mod CommonPlaces
 mod WorkedFactPlaces
+mod WorkedVoices
 mod SharedPlaces
 mod FilterPlaces

@@ -23,7 +23,7 @@ use Rattle.song_places.proofs.Leaves.{inner_kind, inner_subtune, inner_order, or
 
 pub byte_found : (song : Song) (need : Need) (s c i : ℕ) (order : Order) (entries : List ℕ) →
     HasOrder song s c order → entries ≡ order.entries → i < length entries →
-    need.byte s (get_or entries i 0) → ((k : ℕ) → k < i → IsNowhereUnder song need (1 ∷ s ∷ c ∷ k ∷ [])) →
+    need.byte s c (get_or entries i 0) → ((k : ℕ) → k < i → IsNowhereUnder song need (1 ∷ s ∷ c ∷ k ∷ [])) →
     IsFirstUnder song need (1 ∷ s ∷ c ∷ []) (InOrder s c i)
 byte_found song need s c i order entries has same inside needs none =
     let there : slice_get entries i ≡ Some (get_or entries i 0) = slice_get-get_or entries i 0 inside in
@@ -39,9 +39,9 @@ byte_found song need s c i order entries has same inside needs none =
 -- what stands at a place of this orderlist
 pub byte_at : (song : Song) (need : Need) (s c i : ℕ) (order : Order) → HasOrder song s c order → (place : Place) →
     IsNeededUnder song need (1 ∷ s ∷ c ∷ i ∷ []) place →
-    (byte : ℕ) × (slice_get order.entries i ≡ Some byte) × need.byte s byte
+    (byte : ℕ) × (slice_get order.entries i ≡ Some byte) × need.byte s c byte
 byte_at song need s c i order has place such =
-    let at : HasByteAt song s c i (need.byte s) =
+    let at : HasByteAt song s c i (need.byte s c) =
     subst (IsNeededAt song need) (order_place s c i place such.under) such.needed in (
       at.byte,
       subst (λ (o : Order). slice_get o.entries i ≡ Some at.byte) (one_order song s c order at.order has at.has)
@@ -50,13 +50,13 @@ byte_at song need s c i order has place such =
     )
 
 pub byte_passed : (song : Song) (need : Need) (s c i : ℕ) (order : Order) (entries : List ℕ) →
-    HasOrder song s c order → entries ≡ order.entries → ¬ need.byte s (get_or entries i 0) →
+    HasOrder song s c order → entries ≡ order.entries → ¬ need.byte s c (get_or entries i 0) →
     IsNowhereUnder song need (1 ∷ s ∷ c ∷ i ∷ [])
 byte_passed song need s c i order entries has same not_needed place such =
     let at = byte_at song need s c i order has place such in
     let found : get_or order.entries i 0 ≡ at.0 = get_or_from_slice_get order.entries i at.0 0 at.1 in
     let same_byte : at.0 ≡ get_or entries i 0 = sym found ∙ ap (λ (xs : List ℕ). get_or xs i 0) (sym same) in
-    not_needed (subst (need.byte s) same_byte at.2)
+    not_needed (subst (need.byte s c) same_byte at.2)
 
 pub bytes_end : (song : Song) (need : Need) (s c i : ℕ) (order : Order) (entries : List ℕ) →
     HasOrder song s c order → entries ≡ order.entries → length entries ≤ i →
@@ -78,7 +78,7 @@ bytes_end song need s c i order entries has same end none =
 pub no_order : (song : Song) (need : Need) (s c : ℕ) → ((order : Order) → ¬ HasOrder song s c order) →
     IsNowhereUnder song need (1 ∷ s ∷ c ∷ [])
 no_order song need s c none = none_on song need (1 ∷ s ∷ c ∷ []) (inner_order s c) (λ i place such.
-    (let at : HasByteAt song s c i (need.byte s) =
+    (let at : HasByteAt song s c i (need.byte s c) =
     subst (IsNeededAt song need) (order_place s c i place such.under) such.needed in none at.order at.has))
 
 pub no_channel : (song : Song) (need : Need) (s c : ℕ) → ¬ IsChannel c → IsNowhereUnder song need (1 ∷ s ∷ c ∷ [])

@@ -10,16 +10,17 @@ use Rattle.song_model.specs.Silence.{rest_row}
 use Rattle.play_model.specs.Used.{IsUsedPattern, IsUsedInstrument}
 use Rattle.play_model.specs.Playable.{HasOrder}
 use Rattle.play_model.specs.WorkedSongs.{row, subtune}
+use Rattle.song_facts.specs.declared.facts.Fact.{Fact}
 use Rattle.song_facts.specs.declared.facts.Fact.TheVariants.{RowSlide, FirstMask, GateNote, NoteFilter}
 use Rattle.song_facts.specs.declared.facts.Fact.TheVariants.{OwnTimer, OwnWave, Subtunes}
-use Rattle.song_facts.specs.Facts.{IsGateNote}
+use Rattle.song_facts.specs.Facts.{IsGateNote, IsOfRow}
 use Rattle.player_memory.specs.declared.conditions.TheConstants.{ROW_SLIDE}
 use Rattle.song_places.specs.declared.places.Place.{Place}
 use Rattle.song_places.specs.declared.places.Place.TheVariants.{InOrder, InPattern, InInstrument, InWaveTable}
 use Rattle.song_places.specs.Places.{NeedsFactAt, IsNotAfter, IsFirstFactPlace}
 use Rattle.song_places.specs.WorkedPlaces.{crossing, several, GateNotesAreWorked, FactsAreWorked, PairsAreWorked}
 use Rattle.song_places.specs.WorkedPlaces.{SubtunesAreWorked}
-use Rattle.song_places.specs.Needs.{IsBehindPlayable}
+use Rattle.song_places.specs.Needs.{IsBehindPlayable, GivesFact, OrdersGiveFact}
 use Rattle.song_places.proofs.Ranks.{lower}
 use Rattle.song_places.proofs.KeptParts.{fact_places_are_first}
 use Rattle.song_places.proofs.WorkedPlaces.{used_pattern, played_one, played_two, used_three, not_two, other_used}
@@ -112,21 +113,23 @@ mask_first (InInstrument (suc zero)) at = refl
 mask_first (InInstrument (suc (suc n))) at = (lower (3 ∷ []) 1 (suc (suc n)) [] [] (omega arith)).is
 mask_first (InWaveTable p) at = refl
 
+-- where no orderlist, no pattern and not instrument 1 gives the fact, nothing comes before instrument 3
+third_first : (fact : Fact) → ((s c b : ℕ) → ¬ OrdersGiveFact crossing fact s c b) → ((r : Row) → ¬ IsOfRow fact r) →
+    ¬ GivesFact crossing fact (instrument_at crossing 1) → (other : Place) → NeedsFactAt crossing fact other →
+    IsNotAfter (InInstrument 3) other
+third_first fact bytes rows first (InOrder s c i) at = absurd (bytes s c at.byte at.is_meant)
+third_first fact bytes rows first (InPattern p i) at = absurd (rows at.row at.is_meant)
+third_first fact bytes rows first (InInstrument zero) at = absurd (no_zero at.used)
+third_first fact bytes rows first (InInstrument (suc zero)) at = absurd (first at.is_meant)
+third_first fact bytes rows first (InInstrument (suc (suc zero))) at = absurd (not_two at.used)
+third_first fact bytes rows first (InInstrument (suc (suc (suc zero)))) at = refl
+third_first fact bytes rows first (InInstrument (suc (suc (suc (suc n))))) at =
+    (lower (3 ∷ []) 3 (suc (suc (suc (suc n)))) [] [] (omega arith)).is
+third_first fact bytes rows first (InWaveTable p) at = refl
+
 filtered : NeedsFactAt crossing NoteFilter (InInstrument 3)
 unfolding instrument_at
 filtered = record { used = used_three; is_meant = λ e. omega (arith, e) }
-
-filter_first : (other : Place) → NeedsFactAt crossing NoteFilter other → IsNotAfter (InInstrument 3) other
-unfolding instrument_at
-filter_first (InOrder s c i) at = absurd at.is_meant
-filter_first (InPattern p i) at = absurd at.is_meant
-filter_first (InInstrument zero) at = absurd (no_zero at.used)
-filter_first (InInstrument (suc zero)) at = absurd (at.is_meant refl)
-filter_first (InInstrument (suc (suc zero))) at = absurd (not_two at.used)
-filter_first (InInstrument (suc (suc (suc zero)))) at = refl
-filter_first (InInstrument (suc (suc (suc (suc n))))) at =
-    (lower (3 ∷ []) 3 (suc (suc (suc (suc n)))) [] [] (omega arith)).is
-filter_first (InWaveTable p) at = refl
 
 pub facts_are_worked : FactsAreWorked
 unfolding instrument_at
@@ -138,7 +141,7 @@ facts_are_worked = record {
   unused = λ at. not_two at.used;
   later = record { used = used_three; is_meant = inr (omega arith) };
   not_first = λ first. (let e = first.first (InInstrument 1) masked in cc);
-  filter = record { is_such = filtered; first = filter_first };
+  filter = record { is_such = filtered; first = third_first NoteFilter (λ s c b h. h) (λ r h. h) (λ h. h refl) };
   unused_filter = λ at. not_two at.used;
   no_pulse = λ at. at.is_meant refl;
 }
@@ -149,39 +152,17 @@ own_timer : NeedsFactAt crossing OwnTimer (InInstrument 3)
 unfolding instrument_at
 own_timer = record { used = used_three; is_meant = λ e. omega (arith, e) }
 
-timer_first : (other : Place) → NeedsFactAt crossing OwnTimer other → IsNotAfter (InInstrument 3) other
-timer_first (InOrder s c i) at = absurd at.is_meant
-timer_first (InPattern p i) at = absurd at.is_meant
-timer_first (InInstrument zero) at = absurd (no_zero at.used)
-timer_first (InInstrument (suc zero)) at = absurd (at.is_meant refl)
-timer_first (InInstrument (suc (suc zero))) at = absurd (not_two at.used)
-timer_first (InInstrument (suc (suc (suc zero)))) at = refl
-timer_first (InInstrument (suc (suc (suc (suc n))))) at =
-    (lower (3 ∷ []) 3 (suc (suc (suc (suc n)))) [] [] (omega arith)).is
-timer_first (InWaveTable p) at = refl
-
 own_wave : NeedsFactAt crossing OwnWave (InInstrument 3)
 unfolding instrument_at
 own_wave = record { used = used_three; is_meant = λ e. omega (arith, e) }
 
-wave_first : (other : Place) → NeedsFactAt crossing OwnWave other → IsNotAfter (InInstrument 3) other
-wave_first (InOrder s c i) at = absurd at.is_meant
-wave_first (InPattern p i) at = absurd at.is_meant
-wave_first (InInstrument zero) at = absurd (no_zero at.used)
-wave_first (InInstrument (suc zero)) at = absurd (at.is_meant refl)
-wave_first (InInstrument (suc (suc zero))) at = absurd (not_two at.used)
-wave_first (InInstrument (suc (suc (suc zero)))) at = refl
-wave_first (InInstrument (suc (suc (suc (suc n))))) at =
-    (lower (3 ∷ []) 3 (suc (suc (suc (suc n)))) [] [] (omega arith)).is
-wave_first (InWaveTable p) at = refl
-
 pub pairs_are_worked : PairsAreWorked
 unfolding instrument_at
 pairs_are_worked = record {
-  timer = record { is_such = own_timer; first = timer_first };
+  timer = record { is_such = own_timer; first = third_first OwnTimer (λ s c b h. h) (λ r h. h) (λ h. h refl) };
   unused_timer = λ at. not_two at.used;
   no_first_timer = λ song at. at.is_meant refl;
-  wave = record { is_such = own_wave; first = wave_first };
+  wave = record { is_such = own_wave; first = third_first OwnWave (λ s c b h. h) (λ r h. h) (λ h. h refl) };
   unused_wave = λ at. not_two at.used;
   no_first_wave = λ song at. at.is_meant refl;
   other_wave = record { used = other_used; is_meant = λ e. omega (arith, e) };

@@ -1,7 +1,7 @@
 -- First places of small songs, worked out by hand, and the order of places.
-use Rattle.std.proofs.Common.{◌≡◌, ℕ, zero, suc, ◌<◌, ◌≤◌, ◌⊎◌, [], ◌∷◌, Contains, Some}
+use Rattle.std.proofs.Common.{◌≡◌, ℕ, zero, suc, ◌<◌, ◌≤◌, ◌⊎◌, false, [], ◌∷◌, length, Contains, Some}
 use Rattle.std.proofs.Common.{None, slice_get, lit<, lit≤, refl, sym, ◌∙◌, ap, subst, inl, inr, arith}
-use Rattle.std.proofs.lemmas.Bool.{cases_lt}
+use Rattle.std.proofs.lemmas.Bool.{cases_lt, true≢false}
 use Rattle.std.proofs.lemmas.Option.{slice_get-get_or}
 use Rattle.base.proofs.Laws.{same_some}
 use Rattle.song_model.specs.declared.rows.Row.{Row}
@@ -11,7 +11,7 @@ use Rattle.song_model.specs.declared.songs.Song.{Song}
 use Rattle.song_model.specs.declared.features.Feature.TheVariants.{Transpose, PortaUp, InstrumentVibrato, FilterTable}
 use Rattle.song_model.specs.declared.features.Feature.TheVariants.{WaveTable, WaveCommand}
 use Rattle.song_model.specs.declared.tables.TableName.TheVariants.{Wave, Filter}
-use Rattle.song_model.specs.LookUp.{order_of, pattern_at, instrument_at, table_row}
+use Rattle.song_model.specs.LookUp.{is_playable_subtune, order_of, pattern_at, instrument_at, table_row}
 use Rattle.song_model.specs.Silence.{rest_row}
 use Rattle.play_model.specs.Used.{IsChannel, IsPlayedByte, IsUsedPattern, IsUsedInstrument}
 use Rattle.play_model.specs.Reached.{IsReached, played, led, of_instrument}
@@ -126,13 +126,20 @@ order_second c is = record {
 channel : (c : ℕ) → 1 ≤ c → c ≤ 3 → IsChannel c
 channel c low high = record { first = low; last = high }
 
-is_second : (s c : ℕ) (order : Order) → HasOrder crossing s c order → s ≡ 2
-is_second zero c order has = absurd (let low = has.stored.first in omega arith)
-is_second (suc zero) c order has =
-    absurd (let same = same_some _ has.subtune has.subtune_is in let playable = has.playable in
-    (let no = rw (sym same) at playable in cc))
-is_second (suc (suc zero)) c order has = refl
-is_second (suc (suc (suc k))) c order has = absurd (let high = has.stored.last in omega arith)
+-- of two subtunes the first can't be played
+pub is_second : (song : Song) (first : Subtune) → slice_get song.subtunes 0 ≡ Some first →
+    is_playable_subtune first ≡ false → length song.subtunes ≡ 2 → (s c : ℕ) (order : Order) →
+    HasOrder song s c order → s ≡ 2
+is_second song first is out few zero c order has = absurd (let low = has.stored.first in omega arith)
+is_second song first is out few (suc zero) c order has =
+    absurd (let same = same_some has.subtune first (sym has.subtune_is ∙ is) in
+    true≢false (sym has.playable ∙ ap is_playable_subtune same ∙ out))
+is_second song first is out few (suc (suc zero)) c order has = refl
+is_second song first is out few (suc (suc (suc k))) c order has =
+    absurd (let high = has.stored.last in omega arith)
+
+in_second : (s c : ℕ) (order : Order) → HasOrder crossing s c order → s ≡ 2
+in_second = is_second crossing (subtune (0xE1 ∷ 0 ∷ []) [] (0 ∷ [])) refl refl refl
 
 pub played_two : IsUsedPattern crossing 2
 unfolding second
@@ -179,12 +186,12 @@ used_three = inr (record {
 
 -- ---- where nothing is needed
 
-pub no_bytes : (song : Song) (need : Need) → ((s b : ℕ) → ¬ need.byte s b) → IsNowhereUnder song need (1 ∷ [])
+pub no_bytes : (song : Song) (need : Need) → ((s c b : ℕ) → ¬ need.byte s c b) → IsNowhereUnder song need (1 ∷ [])
 no_bytes song need none =
     none_on song need (1 ∷ []) (inner_kind 1) (λ s. none_on song need (1 ∷ s ∷ []) (inner_subtune s)
     (λ c. none_on song need (1 ∷ s ∷ c ∷ []) (inner_order s c) (λ i place such.
-    (let at : HasByteAt song s c i (need.byte s) =
-    subst (IsNeededAt song need) (order_place s c i place such.under) such.needed in none s at.byte at.is_meant))))
+    (let at : HasByteAt song s c i (need.byte s c) =
+    subst (IsNeededAt song need) (order_place s c i place such.under) such.needed in none s c at.byte at.is_meant))))
 
 pub no_rows : (need : Need) → ((r : Row) → Fields r → ¬ need.row r) → IsNowhereUnder crossing need (2 ∷ [])
 no_rows need none = none_on crossing need (2 ∷ []) (inner_kind 2) (λ p. no_pattern crossing need p (λ i at.
@@ -243,11 +250,11 @@ transposes_are_worked = record {
   first = first_as crossing (NeedsAt crossing Transpose) transposes (InOrder 2 2 1) (λ place. (λ h. h, λ h. h))
       (first_in_orders crossing transposes (InOrder 2 2 1)
       (first_on crossing transposes (1 ∷ []) 2 (InOrder 2 2 1) (inner_kind 1)
-      (λ k few. no_subtune crossing transposes k (λ c order has. (let e = is_second k c order has in omega arith)))
+      (λ k few. no_subtune crossing transposes k (λ c order has. (let e = in_second k c order has in omega arith)))
       (first_on crossing transposes (1 ∷ 2 ∷ []) 2 (InOrder 2 2 1) (inner_subtune 2) before_channel
       (first_on crossing transposes (1 ∷ 2 ∷ 2 ∷ []) 1 (InOrder 2 2 1) (inner_order 2 2) before_place
       (alone crossing transposes (InOrder 2 2 1) transposed)))));
-  unplayed = λ at. (let e = is_second 1 1 at.order at.has in omega arith);
+  unplayed = λ at. (let e = in_second 1 1 at.order at.has in omega arith);
   later = in_three;
   not_first = λ first. (let e = first.first (InOrder 2 2 1) transposed in cc);
 }
@@ -296,7 +303,7 @@ pub portamentos_are_worked : PortamentosAreWorked
 unfolding portamentos table_row
 portamentos_are_worked = record {
   first = first_as crossing (NeedsAt crossing PortaUp) portamentos (InPattern 1 1) (λ place. (λ h. h, λ h. h))
-      (first_in_patterns crossing portamentos (InPattern 1 1) (no_bytes crossing portamentos (λ s b h. h))
+      (first_in_patterns crossing portamentos (InPattern 1 1) (no_bytes crossing portamentos (λ s c b h. h))
       (first_on crossing portamentos (2 ∷ []) 1 (InPattern 1 1) (inner_kind 2) before_pattern
       (first_on crossing portamentos (2 ∷ 1 ∷ []) 1 (InPattern 1 1) (inner_pattern 1) before_row
       (alone crossing portamentos (InPattern 1 1) risen))));
@@ -380,19 +387,19 @@ pub tables_are_worked : TablesAreWorked
 unfolding filters waves commands table_row
 tables_are_worked = record {
   first = first_as crossing (NeedsAt crossing FilterTable) filters (InInstrument 3) (λ place. (λ h. h, λ h. h))
-      (first_in_instruments crossing filters (InInstrument 3) (no_bytes crossing filters (λ s b h. h))
+      (first_in_instruments crossing filters (InInstrument 3) (no_bytes crossing filters (λ s c b h. h))
       (no_rows filters no_filter_row)
       (first_on crossing filters (3 ∷ []) 3 (InInstrument 3) (inner_kind 3) before_instrument
       (alone crossing filters (InInstrument 3) filtered)));
   unused = λ at. not_two at.used;
   no_row = λ at. no_filter_row at.row (used_row 1 1 at.row at.used at.there) at.is_meant;
   wave = first_as crossing (NeedsAt crossing WaveTable) waves (InInstrument 1) (λ place. (λ h. h, λ h. h))
-      (first_in_instruments crossing waves (InInstrument 1) (no_bytes crossing waves (λ s b h. h))
+      (first_in_instruments crossing waves (InInstrument 1) (no_bytes crossing waves (λ s c b h. h))
       (no_rows waves no_wave_row)
       (first_on crossing waves (3 ∷ []) 1 (InInstrument 1) (inner_kind 3) before_first
       (alone crossing waves (InInstrument 1) waved)));
   command = first_as crossing (NeedsAt crossing WaveCommand) commands (InWaveTable 2) (λ place. (λ h. h, λ h. h))
-      (first_in_waves crossing commands (InWaveTable 2) (no_bytes crossing commands (λ s b h. h))
+      (first_in_waves crossing commands (InWaveTable 2) (no_bytes crossing commands (λ s c b h. h))
       (no_rows commands (λ r f h. h)) (no_instruments commands (λ n h. h))
       (first_on crossing commands (4 ∷ []) 2 (InWaveTable 2) (inner_kind 4) before_wave_row
       (alone crossing commands (InWaveTable 2) commanded)));
@@ -460,7 +467,7 @@ pub vibratos_are_worked : VibratosAreWorked
 unfolding trembling vibratos instrument_at
 vibratos_are_worked = record {
   first = first_as trembling (NeedsAt trembling InstrumentVibrato) vibratos (InInstrument 2) (λ place. (λ h. h, λ h. h))
-      (first_in_instruments trembling vibratos (InInstrument 2) (no_bytes trembling vibratos (λ s b h. h))
+      (first_in_instruments trembling vibratos (InInstrument 2) (no_bytes trembling vibratos (λ s c b h. h))
       (none_on trembling vibratos (2 ∷ []) (inner_kind 2) (λ p. no_pattern trembling vibratos p (λ i at. at.is_meant)))
       (first_on trembling vibratos (3 ∷ []) 2 (InInstrument 2) (inner_kind 3) before_vibrato
       (alone trembling vibratos (InInstrument 2) trembled)));

@@ -1,7 +1,7 @@
 -- What of a song needs a feature or gives it a fact: which bytes of orderlists, rows of patterns, instruments and rows
 -- of the wave table.
 -- This is this project's profile of the GoatTracker 2 readme's commands and tables.
-use Rattle.std.specs.Prelude.{◌≡◌, ◌≢◌, ℕ, ◌+◌, ◌%◌, ◌<◌, ◌≤◌, ◌⊎◌, true, Option, Some, slice_get}
+use Rattle.std.specs.Prelude.{◌≡◌, ◌≢◌, ℕ, ◌+◌, ◌%◌, ◌<◌, ◌≤◌, ◌⊎◌, true, Option, Some, slice_get, Any}
 use Rattle.song_model.specs.declared.rows.Row.{Row}
 use Rattle.song_model.specs.declared.orders.Subtune.{Subtune}
 use Rattle.song_model.specs.declared.instruments.Instrument.{Instrument}
@@ -16,29 +16,30 @@ use Rattle.song_model.specs.declared.features.Feature.TheVariants.{SetPulsePoint
 use Rattle.song_model.specs.declared.features.Feature.TheVariants.{FilterControl, Cutoff, Volume, FunkTempo, SetTempo}
 use Rattle.song_model.specs.declared.features.Feature.TheVariants.{WaveTable, WaveCommand}
 use Rattle.song_model.specs.declared.songs.Song.{Song}
-use Rattle.song_model.specs.LookUp.{speed_row, instrument_at, is_playable_subtune}
+use Rattle.song_model.specs.LookUp.{speed_row, pattern_at, instrument_at, is_playable_subtune}
+use Rattle.song_model.specs.Endless.{IsPatternByte}
 use Rattle.song_model.specs.Pointers.{instrument_pointer, command_table, wave_row_table}
 use Rattle.play_model.specs.Features.{IsAny, HasInstrument}
 use Rattle.song_facts.specs.declared.facts.Fact.{Fact}
 use Rattle.song_facts.specs.declared.facts.Fact.TheVariants.{RowTone, RowSlide, RowOnce, FirstMask, Legato, NoHardRestart}
 use Rattle.song_facts.specs.declared.facts.Fact.TheVariants.{WaveDelay, GateNote, NoteVibrato, VibratoDelay, NotePulse, NoteFilter}
 use Rattle.song_facts.specs.declared.facts.Fact.TheVariants.{VoiceTempo, CommonTempo, FunkTurns, FunkChoice}
-use Rattle.song_facts.specs.declared.facts.Fact.TheVariants.{OwnTimer, OwnWave, Subtunes}
-use Rattle.song_facts.specs.Facts.{IsOfRow, IsOfInstrument, IsOfWaveRow, DifferInTimer, DifferInWave}
+use Rattle.song_facts.specs.declared.facts.Fact.TheVariants.{OwnTimer, OwnWave, Subtunes, VoiceTwo, VoiceThree}
+use Rattle.song_facts.specs.Facts.{IsHeard, IsOfRow, IsOfInstrument, IsOfWaveRow, DifferInTimer, DifferInWave}
 
 pub record Need : Type 1 where
-  -- of an orderlist of the subtune with this number, counted from 1
-  pub byte : ℕ → ℕ → Type 0
+  -- of an orderlist of this channel of the subtune with this number, both counted from 1
+  pub byte : ℕ → ℕ → ℕ → Type 0
   pub row : Row → Type 0
   pub instrument : Instrument → Type 0
   pub wave_row : TableRow → Type 0
 
 abbrev pub nothing : Need
-nothing = record { byte = λ s b. ⊥; row = λ r. ⊥; instrument = λ i. ⊥; wave_row = λ r. ⊥ }
+nothing = record { byte = λ s c b. ⊥; row = λ r. ⊥; instrument = λ i. ⊥; wave_row = λ r. ⊥ }
 
 -- bytes of orderlists in this range
 abbrev pub of_bytes : ℕ → ℕ → Need
-of_bytes from to = record nothing { byte = λ s b. (from ≤ b) × (b ≤ to) }
+of_bytes from to = record nothing { byte = λ s c b. (from ≤ b) × (b ≤ to) }
 
 -- rows of patterns with such a command and parameter
 abbrev pub of_rows : (ℕ → ℕ → Type 0) → Need
@@ -123,6 +124,8 @@ GivesFact song FunkChoice = IsOfInstrument FunkChoice
 GivesFact song OwnTimer = DifferInTimer (instrument_at song 1)
 GivesFact song OwnWave = DifferInWave (instrument_at song 1)
 GivesFact song Subtunes = IsOfInstrument Subtunes
+GivesFact song VoiceTwo = IsOfInstrument VoiceTwo
+GivesFact song VoiceThree = IsOfInstrument VoiceThree
 
 -- a subtune that stands before this one can be played; it is counted from 0, and this one from 1
 pub record IsBehindPlayable (song : Song) (s : ℕ) : Type 0 where
@@ -132,16 +135,24 @@ pub record IsBehindPlayable (song : Song) (s : ℕ) : Type 0 where
   pub there : slice_get song.subtunes before ≡ Some subtune
   pub playable : is_playable_subtune subtune ≡ true
 
--- The bytes of the subtune's orderlists give a song the fact. There are several subtunes where one that can be played
--- stands behind another, so the first place of this fact is the first byte of the second one.
-abbrev pub OrdersGiveFact : Song → Fact → ℕ → Type 0
-OrdersGiveFact song Subtunes = IsBehindPlayable song
-OrdersGiveFact song fact = λ s. ⊥
+-- the byte names a pattern with a row that its voice has to play
+pub record NamesHeard (song : Song) (b : ℕ) : Type 0 where
+  pub is_pattern : IsPatternByte b
+  pub heard : Any IsHeard (pattern_at song b)
+
+-- A byte of this channel's orderlist, in this subtune, gives a song the fact. There are several subtunes where one that
+-- can be played stands behind another, so the first place of this fact is the first byte of the second one. Channel 2 or
+-- channel 3 has something to play where a byte of its own names a pattern that has.
+abbrev pub OrdersGiveFact : Song → Fact → ℕ → ℕ → ℕ → Type 0
+OrdersGiveFact song Subtunes = λ s c b. IsBehindPlayable song s
+OrdersGiveFact song VoiceTwo = λ s c b. (c ≡ 2) × NamesHeard song b
+OrdersGiveFact song VoiceThree = λ s c b. (c ≡ 3) × NamesHeard song b
+OrdersGiveFact song fact = λ s c b. ⊥
 
 -- what gives a song the fact
 abbrev pub need_of_fact : Song → Fact → Need
 need_of_fact song fact = record nothing {
-  byte = λ s b. OrdersGiveFact song fact s;
+  byte = OrdersGiveFact song fact;
   row = IsOfRow fact;
   instrument = GivesFact song fact;
   wave_row = IsOfWaveRow fact;

@@ -48,7 +48,7 @@ pub record HasWaveRowAt (song : Song) (p : ℕ) (IsMeant : TableRow → Type 0) 
 
 -- what stands there needs it
 abbrev pub IsNeededAt : Song → Need → Place → Type 0
-IsNeededAt song need (InOrder s c place) = HasByteAt song s c place (need.byte s)
+IsNeededAt song need (InOrder s c place) = HasByteAt song s c place (need.byte s c)
 IsNeededAt song need (InPattern pattern row) = HasRowAt song pattern row need.row
 IsNeededAt song need (InInstrument n) = HasInstrumentAt song n need.instrument
 IsNeededAt song need (InWaveTable p) = HasWaveRowAt song p need.wave_row

@@ -1,9 +1,13 @@
 -- How the first place is looked for, one stretch of the song after the other, and one feature or fact after another.
-use Rattle.std.specs.Prelude.{◌≡◌, ◌≢◌, ℕ, ◌%◌, ◌≤◌, ◌⊎◌, List, ◌++◌, Option, Some}
+use Rattle.std.specs.Prelude.{◌≡◌, ◌≢◌, ℕ, ◌%◌, ◌≤◌, ◌⊎◌, ◌↔◌, Bool, List, ◌++◌, Option, Some, IsTrue}
 use Rattle.song_model.specs.declared.tables.TableName.TheVariants.{Speed}
 use Rattle.song_model.specs.declared.songs.Song.{Song}
 use Rattle.song_model.specs.LookUp.{speed_row}
 use Rattle.play_model.specs.Features.{IsAny}
+use Rattle.song_facts.specs.declared.facts.Fact.TheVariants.{VoiceTwo, VoiceThree}
+use Rattle.usage.specs.Marks.{AreMarks}
+use Rattle.usage.specs.Channels.{IsHeardPattern}
+use Rattle.song_places.specs.declared.needs.Known.{Known}
 use Rattle.song_places.specs.declared.needs.Parameter.{Parameter}
 use Rattle.song_places.specs.declared.needs.Parameter.TheVariants.{Any, Zero, Other}
 use Rattle.song_places.specs.declared.needs.Wanted.{Wanted}
@@ -11,7 +15,7 @@ use Rattle.song_places.specs.declared.needs.Wanted.TheVariants.{Bytes, Command, 
 use Rattle.song_places.specs.declared.needs.Wanted.TheVariants.{NoteSpeeds, Vibrato, WaveCommands, OfFact}
 use Rattle.song_places.specs.declared.places.Place.{Place}
 use Rattle.song_places.specs.Needs.{Need, nothing, of_bytes, of_command, of_rows, of_pointers, of_left_sides}
-use Rattle.song_places.specs.Needs.{need_of_fact}
+use Rattle.song_places.specs.Needs.{IsBehindPlayable, need_of_fact}
 use Rattle.song_places.specs.Places.{rank_of, IsNeededAt, IsFirst}
 
 -- the parameter is such a one
@@ -32,6 +36,17 @@ meant song NoteSpeeds = of_pointers Speed (λ p. 0x80 ≤ (speed_row song p).lef
 meant song Vibrato = record nothing { instrument = λ i. i.vibrato ≢ 0 }
 meant song WaveCommands = of_left_sides 0xF0 0xFE
 meant song (OfFact fact) = need_of_fact song fact
+
+-- where what is wanted is a channel that has something to play, the marks are those of the patterns that have
+abbrev pub AreHeardFor : Song → Wanted → List Bool → Type 0
+AreHeardFor song (OfFact VoiceTwo) marks = AreMarks (IsHeardPattern song) marks
+AreHeardFor song (OfFact VoiceThree) marks = AreMarks (IsHeardPattern song) marks
+AreHeardFor song wanted marks = Unit {0}
+
+-- this is known of the orderlists of the subtune with this number, counted from 1
+pub record IsKnown (song : Song) (wanted : Wanted) (s : ℕ) (known : Known) : Type 0 where
+  pub behind : IsTrue known.behind ↔ IsBehindPlayable song s
+  pub heard : AreHeardFor song wanted known.heard
 
 -- the numbers of the place begin so
 pub record IsUnder (front : List ℕ) (place : Place) : Type 0 where

@@ -1,6 +1,6 @@
 -- First places of small songs, worked out by hand, each with places beside it that aren't the first; those of parts
 -- that several features or facts have in common; and the order of places.
-use Rattle.std.specs.Prelude.{ℕ, [], ◌∷◌}
+use Rattle.std.specs.Prelude.{ℕ, ◌≤◌, [], ◌∷◌}
 use Rattle.song_model.specs.declared.features.Feature.TheVariants.{Transpose, PortaUp, InstrumentVibrato, FilterTable}
 use Rattle.song_model.specs.declared.features.Feature.TheVariants.{WaveTable, WaveCommand}
 use Rattle.song_model.specs.declared.songs.Song.{Song}
@@ -8,11 +8,12 @@ use Rattle.song_model.specs.LookUp.{zero_instrument}
 use Rattle.song_model.specs.Silence.{empty_song, rest_row}
 use Rattle.play_model.specs.WorkedSongs.{subtune, row, sides, other_vibrato}
 use Rattle.song_facts.specs.declared.facts.Fact.TheVariants.{RowSlide, FirstMask, GateNote, NotePulse, NoteFilter}
-use Rattle.song_facts.specs.declared.facts.Fact.TheVariants.{OwnTimer, OwnWave, Subtunes}
+use Rattle.song_facts.specs.declared.facts.Fact.TheVariants.{OwnTimer, OwnWave, Subtunes, VoiceTwo, VoiceThree}
 use Rattle.player_memory.specs.declared.conditions.TheConstants.{PORTA_UP, SKIP_EFFECTS, CLIMB, FOUND_NOTE, ROW_SLIDE}
 use Rattle.player_memory.specs.declared.conditions.TheConstants.{ROW_COMMAND, SPECIAL_ROW, EFFECTS, FILTER_USED}
 use Rattle.song_places.specs.declared.places.Place.{Place}
 use Rattle.song_places.specs.declared.places.Place.TheVariants.{InOrder, InPattern, InInstrument, InWaveTable}
+use Rattle.song_places.specs.Needs.{NamesHeard}
 use Rattle.song_places.specs.Places.{NeedsAt, NeedsFactAt, IsNotAfter, IsFirstPlace, IsFirstFactPlace}
 use Rattle.song_places.specs.PartPlaces.{NeedsFor, IsPartPlace}
 
@@ -119,6 +120,32 @@ pub record SubtunesAreWorked : Type 0 where
   pub first_subtune : ¬ NeedsFactAt several Subtunes (InOrder 2 1 0)
   pub unplayable : ¬ NeedsFactAt several Subtunes (InOrder 3 1 0)
   pub one_alone : (place : Place) → ¬ NeedsFactAt crossing Subtunes place
+
+-- The first of these subtunes can't be played. Pattern 0 rests, pattern 1 has a note, and pattern 2 a command alone;
+-- channel 2 names the note behind the rest, and channel 3 the command behind a transpose and a repeat.
+abbrev pub sounding : Song
+sounding = record empty_song {
+  subtunes = subtune (1 ∷ []) (1 ∷ []) [] ∷ subtune (1 ∷ []) (0 ∷ 1 ∷ 1 ∷ []) (0xF1 ∷ 0xD2 ∷ 2 ∷ []) ∷ [];
+  patterns = (rest_row ∷ []) ∷ (rest_row ∷ row 0x90 1 0 0 ∷ []) ∷ (row 0xBD 0 5 0 ∷ []) ∷ [];
+}
+
+-- What a channel has to play begins with the byte that names it, and the next such byte is later. A byte that names a
+-- rest is none, nor is one of another channel or of a subtune that can't be played, nor the row itself; and in no song
+-- does a repeat or a transpose name a pattern.
+pub record VoicesAreWorked : Type 0 where
+  pub two : IsFirstFactPlace sounding VoiceTwo (InOrder 2 2 1)
+  pub rest : ¬ NeedsFactAt sounding VoiceTwo (InOrder 2 2 0)
+  pub next_byte : NeedsFactAt sounding VoiceTwo (InOrder 2 2 2)
+  pub not_next_byte : ¬ IsFirstFactPlace sounding VoiceTwo (InOrder 2 2 2)
+  pub of_one : ¬ NeedsFactAt sounding VoiceTwo (InOrder 2 1 0)
+  pub of_three : ¬ NeedsFactAt sounding VoiceTwo (InOrder 2 3 2)
+  pub unplayable : ¬ NeedsFactAt sounding VoiceTwo (InOrder 1 2 0)
+  pub no_row : ¬ NeedsFactAt sounding VoiceTwo (InPattern 1 1)
+  pub three : IsFirstFactPlace sounding VoiceThree (InOrder 2 3 2)
+  pub of_two : ¬ NeedsFactAt sounding VoiceThree (InOrder 2 2 1)
+  pub no_transpose : ¬ NeedsFactAt sounding VoiceThree (InOrder 2 3 0)
+  pub no_repeat : ¬ NeedsFactAt sounding VoiceThree (InOrder 2 3 1)
+  pub no_pattern : (song : Song) (b : ℕ) → 0xD0 ≤ b → ¬ NamesHeard song b
 
 -- ---- what features have in common
 

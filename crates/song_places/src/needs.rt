@@ -5,10 +5,12 @@ ghost use Rattle.song_model.specs.declared.songs.Song.{Song as AnySong};
 ghost use Rattle.song_model.specs.declared.tables.TableName.TheVariants.{Speed};
 ghost use Rattle.song_model.specs.LookUp.{speed_row};
 ghost use Rattle.play_model.specs.Features.{IsAny, HasFeature};
+ghost use Rattle.usage.specs.Marks.{AreMarks};
+ghost use Rattle.usage.specs.Channels.{IsHeardPattern};
 ghost use Rattle.song_places.specs.declared.places.Place.{Place};
-ghost use Rattle.song_places.specs.Needs.{Points, GivesFact, IsBehindPlayable, OrdersGiveFact};
+ghost use Rattle.song_places.specs.Needs.{Points, GivesFact, NamesHeard, OrdersGiveFact};
 ghost use Rattle.song_places.specs.Places.{IsNeededAt, NeedsAt};
-ghost use Rattle.song_places.specs.Search.{IsParameter, meant};
+ghost use Rattle.song_places.specs.Search.{IsParameter, meant, IsKnown};
 
 use song_facts::Fact;
 use song_model::{
@@ -64,6 +66,25 @@ pub(crate) enum Wanted {
     OfFact(Fact),
 }
 
+/// What is known of the orderlists of a subtune.
+#[derive(Drop)]
+pub(crate) struct Known {
+    /// Whether the subtune is behind another that can be played.
+    pub(crate) behind: bool,
+    /// A mark for each pattern that has a row to play, where such patterns are looked for.
+    pub(crate) heard: [bool; 256],
+}
+
+impl Known {
+    /// Whether a byte of an orderlist names a marked pattern.
+    fn names_heard(&self, byte: u8) -> bool
+        ensures { (song : AnySong) → AreMarks (IsHeardPattern song) self.now.heard →
+            IsTrue result ↔ NamesHeard song byte }
+    {
+        byte < 0xd0 && self.heard[usize::from(byte)]
+    }
+}
+
 /// Whether a number points into a table.
 fn points(table: Option<TableName>, name: TableName, pointer: u8) -> bool
     ensures { IsTrue result ↔ Points name IsAny table pointer }
@@ -89,14 +110,15 @@ fn gives_fact(song: &Song, fact: Fact, instrument: &Instrument) -> bool
     }
 }
 
-/// Whether the bytes of a subtune's orderlists give the song the fact, where the subtune is `behind` another that can
-/// be played, or isn't.
-fn orders_give_fact(fact: Fact, behind: bool) -> bool
-    ensures { (song : AnySong) → (s : ℕ) → (IsTrue behind ↔ IsBehindPlayable song s) →
-        IsTrue result ↔ OrdersGiveFact song fact s }
+/// Whether a byte of a channel's orderlist gives the song the fact, in a subtune of which this is known.
+fn orders_give_fact(fact: Fact, known: &Known, channel: u8, byte: u8) -> bool
+    ensures { (song : AnySong) → (s : ℕ) → IsKnown song (Wanted.OfFact fact) s known.now →
+        IsTrue result ↔ OrdersGiveFact song fact s channel byte }
 {
     match fact {
-        Fact::Subtunes => behind,
+        Fact::Subtunes => known.behind,
+        Fact::VoiceTwo => channel == 2 && known.names_heard(byte),
+        Fact::VoiceThree => channel == 3 && known.names_heard(byte),
         _ => false,
     }
 }
@@ -135,14 +157,14 @@ impl Wanted {
         }
     }
 
-    /// Whether a byte of an orderlist is wanted, of a subtune that is `behind` another that can be played, or isn't.
-    pub(crate) fn is_byte(self, behind: bool, byte: u8) -> bool
-        ensures { (song : AnySong) → (s : ℕ) → (IsTrue behind ↔ IsBehindPlayable song s) →
-            IsTrue result ↔ (meant song self).byte s byte }
+    /// Whether a byte of a channel's orderlist is wanted, in a subtune of which this is known.
+    pub(crate) fn is_byte(self, known: &Known, channel: u8, byte: u8) -> bool
+        ensures { (song : AnySong) → (s : ℕ) → IsKnown song self s known.now →
+            IsTrue result ↔ (meant song self).byte s channel byte }
     {
         match self {
             Wanted::Bytes(from, to) => from <= byte && byte <= to,
-            Wanted::OfFact(fact) => orders_give_fact(fact, behind),
+            Wanted::OfFact(fact) => orders_give_fact(fact, known, channel, byte),
             _ => false,
         }
     }

@@ -8,7 +8,7 @@ pub returns-then-is_byte-clause-found : goal.returns-then-is_byte-clause-found
 returns-then-is_byte-clause-found c =
     byte_found c.args.song.now (meant c.args.song.now c.args.wanted) c.args.subtune c.args.channel c.loop-i.i
     c.args.order.now c.as_slice-entries.result.now c.requires.has c.as_slice-entries.ensures.bytes c.loop-i-test.true
-    ((c.is_byte.ensures c.args.song.now c.args.subtune c.requires.behind).0 c.if-is_byte.true) c.loop-i.invariant
+    ((c.is_byte.ensures c.args.song.now c.args.subtune c.requires.known).0 c.if-is_byte.true) c.loop-i.invariant
 
 pub loop-i-preserved : goal.loop-i-preserved
 loop-i-preserved c =
@@ -16,7 +16,7 @@ loop-i-preserved c =
     c.loop-i.i c.loop-i.invariant
     (byte_passed c.args.song.now (meant c.args.song.now c.args.wanted) c.args.subtune c.args.channel c.loop-i.i
     c.args.order.now c.as_slice-entries.result.now c.requires.has c.as_slice-entries.ensures.bytes
-    (λ needs. absurd (let e = (c.is_byte.ensures c.args.song.now c.args.subtune c.requires.behind).1 needs in
+    (λ needs. absurd (let e = (c.is_byte.ensures c.args.song.now c.args.subtune c.requires.known).1 needs in
     let f = c.if-is_byte.false in cc)))
 
 pub returns-clause-none : goal.returns-clause-none

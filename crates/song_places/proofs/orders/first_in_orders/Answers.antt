@@ -1,9 +1,7 @@
-use Rattle.std.proofs.Common.{◌≡◌, ℕ, ◌+◌, ◌<◌, ◌↔◌, Bool, List, length, get_or, slice_get, Some, sym, ◌∙◌, ap, subst}
-use Rattle.std.specs.Prelude.{IsTrue}
+use Rattle.std.proofs.Common.{◌≡◌, ℕ, ◌+◌, ◌<◌, List, length, get_or, slice_get, Some, sym, ◌∙◌, ap, subst}
 use Rattle.std.proofs.lemmas.Option.{slice_get-get_or}
 use Rattle.song_model.specs.declared.orders.Subtune.{Subtune}
-use Rattle.song_places.specs.Needs.{IsBehindPlayable}
-use Rattle.song_places.specs.Search.{meant}
+use Rattle.song_places.specs.Search.{meant, IsKnown}
 use Rattle.song_places.proofs.OrderPlaces.{none_before, first_subtune, subtune_passed, subtunes_end}
 use Rattle.song_places.proofs.SeveralSubtunes.{none_behind, next_behind, still_behind}
 use Rattle.song_places.proofs.orders.first_in_orders.Goals as goal
@@ -12,7 +10,7 @@ use Rattle.song_places.proofs.orders.first_in_orders.Goals.{then-is_playable, el
 pub loop-i-init : goal.loop-i-init
 loop-i-init c = record {
   none = none_before c.args.song.now (meant c.args.song.now c.args.wanted);
-  behind = none_behind c.args.song.now;
+  known = record { behind = none_behind c.args.song.now; heard = c.heard_for.ensures };
 }
 
 pub returns-in-Some-clause-found : goal.returns-in-Some-clause-found
@@ -35,17 +33,22 @@ loop-i-preserved c =
     let there : slice_get song.subtunes i ≡ Some subtune =
     stands c.as_slice-subtunes.result.now song.subtunes i subtune c.as_slice-subtunes.ensures.items c.loop-i-test.true
     c.index-subtunes-i.is in
-    let next = λ (b : Bool). IsTrue b ↔ IsBehindPlayable song (i + 1 + 1) in
+    let next = IsKnown song c.args.wanted (i + 1 + 1) in
+    let so_far = c.loop-i.invariant.known in
     record {
       none = subtune_passed song (meant song c.args.wanted) i c.loop-i.invariant.none c.in_default.ensures.none;
-      behind = elim c.if-is_playable.branch [
+      known = elim c.if-is_playable.branch [
         | then-is_playable w ↦
-            subst next (sym w.behind-is)
-            (next_behind song i subtune there (sym c.is_playable.ensures ∙ w.if-is_playable.true))
+            subst next (sym w.known-is) (record {
+              behind = next_behind song i subtune there (sym c.is_playable.ensures ∙ w.if-is_playable.true);
+              heard = so_far.heard;
+            })
         | else-is_playable w ↦
-            subst next (sym w.behind-is)
-            (still_behind song i subtune c.loop-i.behind there (sym c.is_playable.ensures ∙ w.if-is_playable.false)
-            c.loop-i.invariant.behind)
+            subst next (sym w.known-is) (record {
+              behind = still_behind song i subtune c.loop-i.known.behind there
+                  (sym c.is_playable.ensures ∙ w.if-is_playable.false) so_far.behind;
+              heard = so_far.heard;
+            })
       ];
     }
 
