@@ -10,7 +10,7 @@ mod Fetches
 -- A play begins behind the walk along the orderlist.
 mod Begun
 -- The law on the desk of a voice.
-mod Law
+mod Leading
 -- The code in memory.
 mod Grounds
 mod Stepping

@@ -34,7 +34,7 @@ use Rattle.fetch_code.proofs.Reaching.{fetched_voice, FetchGround}
 use Rattle.walk_code.proofs.Laws.{WalkGround}
 use Rattle.walk_code.proofs.Laws.{IsNone, none_played}
 use Rattle.fetch_code.proofs.Grounds.{pattern_at, low_at, high_at, order_at}
-use Rattle.fetch_code.proofs.Law.{fetch_step_leads}
+use Rattle.fetch_code.proofs.Leading.{fetch_step_leads}
 
 -- ---- what the step stands on
 
