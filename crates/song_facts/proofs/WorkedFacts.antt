@@ -1,5 +1,5 @@
 -- Facts that are worked by hand.
-use Rattle.std.proofs.Common.{◌≡◌, ℕ, ◌↔◌, true, List, [], ◌∷◌, Contains}
+use Rattle.std.proofs.Common.{◌≡◌, ℕ, zero, suc, ◌⊎◌, ◌↔◌, true, List, [], ◌∷◌, Contains}
 use Rattle.std.proofs.Common.{inl, inr, refl, sym, ◌∙◌, ap, subst, arith}
 use Rattle.std.specs.Prelude.{slice_index_or}
 use Rattle.std.proofs.lemmas.List.Elements.{All-nil, All-cons, All-contains}
@@ -18,10 +18,12 @@ use Rattle.song_facts.specs.declared.facts.Fact.{Fact}
 use Rattle.song_facts.specs.declared.facts.Fact.TheVariants.{RowTone, RowSlide, RowOnce, FirstMask, Legato, NoHardRestart}
 use Rattle.song_facts.specs.declared.facts.Fact.TheVariants.{WaveDelay, GateNote, NoteVibrato, VibratoDelay, NotePulse, NoteFilter}
 use Rattle.song_facts.specs.declared.facts.Fact.TheVariants.{VoiceTempo, CommonTempo, FunkTurns, FunkChoice}
-use Rattle.song_facts.specs.declared.facts.Fact.TheVariants.{OwnTimer, OwnWave, Subtunes, VoiceTwo, VoiceThree}
+use Rattle.song_facts.specs.declared.facts.Fact.TheVariants.{OwnTimer, OwnWave, Subtunes, VoiceTwo, VoiceThree, FirstHolds}
 use Rattle.song_facts.specs.Facts.{IsMask, IsHeard, is_among, no_facts, HasSuchRow, HasChannelRow, HasSuchInstrument}
 use Rattle.song_facts.specs.Facts.{HasSuchPair, HasFact}
-use Rattle.song_facts.specs.WorkedFacts.{RowsAreTold, InstrumentsAreTold, SongsAreTold, SetsAreTold, wave_of, two_of}
+use Rattle.song_facts.specs.WorkedFacts.{RowsAreTold, InstrumentsAreTold, HoldsAreTold, SongsAreTold, SetsAreTold}
+use Rattle.song_facts.specs.WorkedFacts.{wave_of, two_of, holding}
+use Rattle.song_facts.specs.Hold.{HoldsMore}
 
 pub rows_are_told : RowsAreTold
 rows_are_told = record {
@@ -81,6 +83,18 @@ instruments_are_told = record {
   same_timer = λ e. e refl;
   waves = λ e. omega (arith, e);
   same_wave = λ e. e refl;
+}
+
+pub holds_are_told : HoldsAreTold
+holds_are_told = record {
+  nothing = refl;
+  envelope = refl;
+  gate = refl;
+  both = refl;
+  gate_most = omega arith;
+  envelope_more = omega arith;
+  no_less = λ more. omega (arith, more);
+  as_much = λ more. omega (arith, more);
 }
 
 -- ---- songs that have a fact
@@ -198,6 +212,42 @@ no_channel_row song channel none has =
     nowhere : (subtune : Subtune) → ¬ Contains [] subtune
     nowhere subtune (k, inside, at) = omega (arith, inside)
 
+-- one that is among a single item is that item
+only : {X : Type 0} (P : X → Type 0) (one item : X) → P one → Contains (one ∷ []) item → P item
+only P one item holds has = All-contains P (one ∷ []) item (All-cons P one [] holds (All-nil P)) has
+
+-- where the only row names instrument 2, no other but the first is used
+IsSecondOrNone : Row → Type 0
+IsSecondOrNone r = (r.instrument ≡ 0) ⊎ (r.instrument ≡ 2)
+
+second_named : (one two : Instrument) (k : ℕ) (r : Row) → Contains (pattern_at (two_of one two) k) r → IsSecondOrNone r
+unfolding pattern_at IsSecondOrNone
+second_named one two zero r has = only IsSecondOrNone (row 0x90 2 0 0) r (inr refl) has
+second_named one two (suc zero) r has = only IsSecondOrNone (row 0xBD 0 0 0) r (inl refl) has
+second_named one two (suc (suc k)) r (n, inside, at) = absurd (omega (arith, inside))
+
+second_or_first : (one two : Instrument) (i : ℕ) → IsUsedInstrument (two_of one two) i → (i ≡ 1) ⊎ (i ≡ 2)
+unfolding IsSecondOrNone
+second_or_first one two i (inl first) = inl first
+second_or_first one two i (inr named) =
+    elim (second_named one two named.used.pattern named.row named.used.has) [
+      | inl none ↦ absurd (named.some (sym named.names ∙ none))
+      | inr second ↦ inr (sym named.names ∙ second)
+    ]
+
+-- the first holds its envelope, and the second its gate
+holds_no_more : (i : ℕ) → (i ≡ 1) ⊎ (i ≡ 2) →
+    ¬ HoldsMore (record plucked { gate_timer = 0x82 }) (instrument_at (holding 0x82 0x42) i)
+unfolding instrument_at
+holds_no_more i (inl one) more = omega (arith, subst is_less one more)
+  where
+    is_less : ℕ → Type 0
+    is_less n = HoldsMore (record plucked { gate_timer = 0x82 }) (instrument_at (holding 0x82 0x42) n)
+holds_no_more i (inr two) more = omega (arith, subst is_less two more)
+  where
+    is_less : ℕ → Type 0
+    is_less n = HoldsMore (record plucked { gate_timer = 0x82 }) (instrument_at (holding 0x82 0x42) n)
+
 -- where a channel plays the rest alone of the song of one note, it has nothing to play
 rest_not_heard : (song : Song) (channel : ℕ) (subtune : Subtune) → song.patterns ≡ one_note.patterns →
     playable_subtunes song ≡ subtune ∷ [] → (order_of channel subtune).entries ≡ 1 ∷ [] →
@@ -209,9 +259,6 @@ rest_not_heard song channel subtune same alone rest has =
     (ap (λ (patterns : List (List Row)). slice_index_or patterns has.pattern []) same
     ∙ ap (λ (n : ℕ). slice_index_or one_note.patterns n []) first) has.has) has.is_such
   where
-    only : {X : Type 0} (P : X → Type 0) (one item : X) → P one → Contains (one ∷ []) item → P item
-    only P one item holds has = All-contains P (one ∷ []) item (All-cons P one [] holds (All-nil P)) has
-
     here : has.subtune ≡ subtune
     here =
         only (λ s. s ≡ subtune) subtune has.subtune refl
@@ -293,6 +340,7 @@ songs_are_told = record {
     has = (0, omega arith, refl);
     is_such = inl (omega arith, omega arith);
   };
+  first_holds = record { instrument = 2; used = second_used _ _; is_such = omega arith };
   not_played = λ has. no_such_row _ refl _ has;
   not_named = λ has. plain (such_first _ refl IsMask has);
   not_reached = λ has. none_reached _ refl refl has.p has.reached;
@@ -302,6 +350,8 @@ songs_are_told = record {
   one_playable = λ more. omega (arith, more);
   not_two = λ has. rest_not_heard _ 2 _ refl refl refl has;
   not_three = λ has. rest_not_heard _ 3 _ refl refl refl has;
+  holds_less = λ has. holds_no_more has.instrument (second_or_first _ _ has.instrument has.used) has.is_such;
+  holds_not_named = λ has. omega (arith, such_first _ refl _ has);
   two_not_playable = λ has. rest_not_heard _ 2 _ refl refl refl has;
 }
   where
@@ -334,6 +384,7 @@ fact_of_empty OwnWave has = absurd (no_pair empty_song refl _ (λ differ. differ
 fact_of_empty Subtunes has = absurd (omega (arith, has))
 fact_of_empty VoiceTwo has = absurd (no_channel_row empty_song 2 refl has)
 fact_of_empty VoiceThree has = absurd (no_channel_row empty_song 3 refl has)
+fact_of_empty FirstHolds has = absurd (omega (arith, such_first empty_song refl _ has))
 
 other : (fact : Fact) → ¬ (fact ≡ FirstMask) → ¬ HasFact empty_song fact
 other fact not has = not (fact_of_empty fact has)
@@ -364,6 +415,7 @@ empty_has OwnWave = (λ on. absurd cc, λ has. absurd (other OwnWave (λ e. cc) 
 empty_has Subtunes = (λ on. absurd cc, λ has. absurd (other Subtunes (λ e. cc) has))
 empty_has VoiceTwo = (λ on. absurd cc, λ has. absurd (other VoiceTwo (λ e. cc) has))
 empty_has VoiceThree = (λ on. absurd cc, λ has. absurd (other VoiceThree (λ e. cc) has))
+empty_has FirstHolds = (λ on. absurd cc, λ has. absurd (other FirstHolds (λ e. cc) has))
 
 pub sets_are_told : SetsAreTold
 sets_are_told = record {

@@ -1,6 +1,7 @@
--- Facts of a song: what of all that it uses has a kind that a player may do without where there is none, in what two of
--- its instruments differ, whether it has several subtunes, and which of its channels have something to play. This is this
--- project's profile of the GoatTracker 2 readme's rows, instruments, wave table, subtunes and channels.
+-- Facts of a song: what of all that it uses has a kind that a player may do without where there is none, in what two
+-- of its instruments differ, whether it has several subtunes, which of its channels have something to play, and
+-- whether its first instrument holds more before a note than another. This is this project's profile of the
+-- GoatTracker 2 readme's rows, instruments, wave table, subtunes and channels.
 use Rattle.std.specs.Prelude.{◌≡◌, ◌≢◌, ℕ, ◌%◌, ◌<◌, ◌≤◌, ◌⊎◌, ◌↔◌, Bool, true, false, bit_and, length}
 use Rattle.std.specs.Prelude.{Contains}
 use Rattle.song_model.specs.declared.rows.Row.{Row}
@@ -18,7 +19,8 @@ use Rattle.song_facts.specs.declared.facts.Facts.{Facts}
 use Rattle.song_facts.specs.declared.facts.Fact.TheVariants.{RowTone, RowSlide, RowOnce, FirstMask, Legato, NoHardRestart}
 use Rattle.song_facts.specs.declared.facts.Fact.TheVariants.{WaveDelay, GateNote, NoteVibrato, VibratoDelay, NotePulse, NoteFilter}
 use Rattle.song_facts.specs.declared.facts.Fact.TheVariants.{VoiceTempo, CommonTempo, FunkTurns, FunkChoice}
-use Rattle.song_facts.specs.declared.facts.Fact.TheVariants.{OwnTimer, OwnWave, Subtunes, VoiceTwo, VoiceThree}
+use Rattle.song_facts.specs.declared.facts.Fact.TheVariants.{OwnTimer, OwnWave, Subtunes, VoiceTwo, VoiceThree, FirstHolds}
+use Rattle.song_facts.specs.Hold.{HoldsMore}
 
 -- the number of a fact
 abbrev pub number_of : Fact → ℕ
@@ -43,6 +45,7 @@ number_of OwnWave = 17
 number_of Subtunes = 18
 number_of VoiceTwo = 19
 number_of VoiceThree = 20
+number_of FirstHolds = 21
 
 -- ---- rows of patterns
 
@@ -154,6 +157,7 @@ IsOfRow OwnWave = λ row. ⊥
 IsOfRow Subtunes = λ row. ⊥
 IsOfRow VoiceTwo = λ row. ⊥
 IsOfRow VoiceThree = λ row. ⊥
+IsOfRow FirstHolds = λ row. ⊥
 
 -- an instrument
 abbrev pub IsOfInstrument : Fact → Instrument → Type 0
@@ -178,6 +182,7 @@ IsOfInstrument OwnWave = λ i. ⊥
 IsOfInstrument Subtunes = λ i. ⊥
 IsOfInstrument VoiceTwo = λ i. ⊥
 IsOfInstrument VoiceThree = λ i. ⊥
+IsOfInstrument FirstHolds = λ i. ⊥
 
 -- two instruments
 abbrev pub IsOfPair : Fact → Instrument → Instrument → Type 0
@@ -202,6 +207,7 @@ IsOfPair OwnWave = DifferInWave
 IsOfPair Subtunes = λ one other. ⊥
 IsOfPair VoiceTwo = λ one other. ⊥
 IsOfPair VoiceThree = λ one other. ⊥
+IsOfPair FirstHolds = λ one other. ⊥
 
 -- a row of the wave table
 abbrev pub IsOfWaveRow : Fact → TableRow → Type 0
@@ -226,6 +232,7 @@ IsOfWaveRow OwnWave = λ row. ⊥
 IsOfWaveRow Subtunes = λ row. ⊥
 IsOfWaveRow VoiceTwo = λ row. ⊥
 IsOfWaveRow VoiceThree = λ row. ⊥
+IsOfWaveRow FirstHolds = λ row. ⊥
 
 -- ---- songs
 
@@ -293,6 +300,7 @@ HasFact song OwnWave = HasSuchPair song DifferInWave
 HasFact song Subtunes = HasSubtunes song
 HasFact song VoiceTwo = HasChannelRow song 2 IsHeard
 HasFact song VoiceThree = HasChannelRow song 3 IsHeard
+HasFact song FirstHolds = HasSuchInstrument song (λ i. HoldsMore (instrument_at song 1) i)
 
 -- whether a fact is among these
 abbrev pub is_among : Facts → Fact → Bool
@@ -317,6 +325,7 @@ is_among facts OwnWave = facts.own_wave
 is_among facts Subtunes = facts.subtunes
 is_among facts VoiceTwo = facts.voice_two
 is_among facts VoiceThree = facts.voice_three
+is_among facts FirstHolds = facts.first_holds
 
 -- these are the song's facts: those that it has, and no others
 pub record AreFacts (song : Song) (facts : Facts) : Type 0 where
@@ -350,6 +359,7 @@ no_facts = record {
   subtunes = false;
   voice_two = false;
   voice_three = false;
+  first_holds = false;
 }
 
 -- of one that has all
@@ -376,4 +386,5 @@ all_facts = record {
   subtunes = true;
   voice_two = true;
   voice_three = true;
+  first_holds = true;
 }

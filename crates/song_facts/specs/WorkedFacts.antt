@@ -1,5 +1,5 @@
 -- Facts that are worked by hand, with what each refuses.
-use Rattle.std.specs.Prelude.{ℕ, true, List, [], ◌∷◌}
+use Rattle.std.specs.Prelude.{◌≡◌, ℕ, true, List, [], ◌∷◌}
 use Rattle.song_model.specs.declared.orders.Subtune.{Subtune}
 use Rattle.song_model.specs.declared.songs.Song.{Song}
 use Rattle.song_model.specs.Silence.{empty_song}
@@ -8,7 +8,9 @@ use Rattle.play_model.specs.WorkedSongs.{subtune, row, sides, plucked, one_note,
 use Rattle.song_facts.specs.declared.facts.Fact.TheVariants.{RowTone, RowSlide, RowOnce, FirstMask, Legato, NoHardRestart}
 use Rattle.song_facts.specs.declared.facts.Fact.TheVariants.{WaveDelay, GateNote, NoteVibrato, VibratoDelay, NotePulse, NoteFilter}
 use Rattle.song_facts.specs.declared.facts.Fact.TheVariants.{VoiceTempo, CommonTempo, FunkTurns, FunkChoice}
-use Rattle.song_facts.specs.declared.facts.Fact.TheVariants.{OwnTimer, OwnWave, Subtunes, VoiceTwo, VoiceThree}
+use Rattle.song_facts.specs.declared.facts.Fact.TheVariants.{OwnTimer, OwnWave, Subtunes, VoiceTwo, VoiceThree, FirstHolds}
+use Rattle.song_facts.specs.declared.hold.Hold.TheVariants.{Nothing, Envelope, Gate}
+use Rattle.song_facts.specs.Hold.{held_by, HoldsMore}
 use Rattle.song_facts.specs.Facts.{IsTone, IsSlide, IsOnce, IsGateNote, IsMask, IsLegato, KeepsEnvelope, IsDelay}
 use Rattle.song_facts.specs.Facts.{HasVibrato, HasVibratoDelay, HasPulse, HasFilter, DifferInTimer, DifferInWave}
 use Rattle.song_facts.specs.Facts.{IsVoiceTempo, IsCommonTempo, IsFunkTurns, IsFunkChoice, IsHeard}
@@ -72,6 +74,17 @@ pub record InstrumentsAreTold : Type 0 where
   pub waves : DifferInWave (record plucked { first_wave = 9 }) (record plucked { first_wave = 8 })
   pub same_wave : ¬ DifferInWave (record plucked { gate_timer = 2 }) (record plucked { gate_timer = 3 })
 
+-- what gateoff timers hold, and which of two instruments holds more
+pub record HoldsAreTold : Type 0 where
+  pub nothing : held_by 0x3F ≡ Nothing
+  pub envelope : held_by 0x80 ≡ Envelope
+  pub gate : held_by 0x40 ≡ Gate
+  pub both : held_by 0xC2 ≡ Gate
+  pub gate_most : HoldsMore (record plucked { gate_timer = 0x40 }) (record plucked { gate_timer = 0xBF })
+  pub envelope_more : HoldsMore (record plucked { gate_timer = 0x80 }) (record plucked { gate_timer = 0x3F })
+  pub no_less : ¬ HoldsMore (record plucked { gate_timer = 0xBF }) (record plucked { gate_timer = 0x40 })
+  pub as_much : ¬ HoldsMore (record plucked { gate_timer = 0xC2 }) (record plucked { gate_timer = 0x42 })
+
 -- the song whose first pattern is a row with this note and command
 abbrev pub song_of : ℕ → ℕ → Song
 song_of note command = with_rows (row note 1 command 0 ∷ []) one_note
@@ -87,6 +100,10 @@ wave_of left = record one_note { wave = sides left 0 ∷ sides 0xFF 0 ∷ [] }
 -- a song of one note by instrument 2, with these two instruments
 abbrev pub two_of : Instrument → Instrument → Song
 two_of one other = record (with_rows (row 0x90 2 0 0 ∷ []) one_note) { instruments = one ∷ other ∷ [] }
+
+-- where they have these gateoff timers
+abbrev pub holding : ℕ → ℕ → Song
+holding one other = two_of (record plucked { gate_timer = one }) (record plucked { gate_timer = other })
 
 -- the song of one note with its subtune and these behind it
 abbrev pub subtunes_of : List Subtune → Song
@@ -121,6 +138,7 @@ pub record SongsAreTold : Type 0 where
   pub subtunes : HasFact (subtunes_of (subtune (1 ∷ []) (0 ∷ []) (1 ∷ []) ∷ [])) Subtunes
   pub two : HasFact (channels_of (1 ∷ []) (1 ∷ 0 ∷ []) (1 ∷ [])) VoiceTwo
   pub three : HasFact (channels_of (1 ∷ []) (1 ∷ []) (0 ∷ [])) VoiceThree
+  pub first_holds : HasFact (holding 0x42 0x82) FirstHolds
   pub not_played : ¬ HasFact (record empty_song { patterns = (row 0xBE 0 3 0 ∷ []) ∷ [] }) GateNote
   pub not_named : ¬ HasFact (record empty_song { instruments = plucked ∷ record plucked { first_wave = 0 } ∷ [] }) FirstMask
   pub not_reached : ¬ HasFact (record empty_song { wave = sides 0x0F 0 ∷ [] }) WaveDelay
@@ -130,6 +148,9 @@ pub record SongsAreTold : Type 0 where
   pub one_playable : ¬ HasFact (subtunes_of (subtune (1 ∷ []) (0 ∷ []) [] ∷ [])) Subtunes
   pub not_two : ¬ HasFact (channels_of (0 ∷ []) (1 ∷ []) (0 ∷ [])) VoiceTwo
   pub not_three : ¬ HasFact (channels_of (0 ∷ []) (0 ∷ []) (1 ∷ [])) VoiceThree
+  pub holds_less : ¬ HasFact (holding 0x82 0x42) FirstHolds
+  pub holds_not_named :
+      ¬ HasFact (record empty_song { instruments = record plucked { gate_timer = 0x42 } ∷ plucked ∷ [] }) FirstHolds
   pub two_not_playable : ¬ HasFact (subtunes_of (subtune (1 ∷ []) (0 ∷ []) [] ∷ [])) VoiceTwo
 
 -- A song that uses nothing begins with an instrument that isn't stored, whose first waveform is 0: that one fact is its

@@ -13,8 +13,8 @@ pub fn is_heard(row: Row) -> bool
 }
 
 /// What a song has beside its features, of all that it uses: rows of its patterns, its instruments and the rows of its
-/// wave table; whether it has several subtunes; and which channels have something to play. The player leaves out what it
-/// does for a fact where a song hasn't it.
+/// wave table; whether it has several subtunes; which channels have something to play; and whether its first instrument
+/// holds more before a note than another. The player leaves out what it does for a fact where a song hasn't it.
 #[derive(Clone, Copy, Debug, PartialEq, Eq)]
 pub enum Fact {
     /// A row has command 3, which slides to its note.
@@ -60,12 +60,15 @@ pub enum Fact {
     VoiceTwo,
     /// So has channel 3.
     VoiceThree,
+    /// Instrument 1, with which each voice begins, holds more before its notes than another one: its gate, where that
+    /// holds the envelope alone or nothing, or its envelope, where that holds nothing.
+    FirstHolds,
 }
 
 impl Fact {
     ghost use Rattle.song_facts.specs.Facts.{number_of, IsOfRow, IsOfInstrument, IsOfPair, IsOfWaveRow};
 
-    /// The fact's number, 0 to 20.
+    /// The fact's number, 0 to 21.
     pub fn number(self) -> u8
         ensures { result ≡ number_of self }
     {
@@ -170,6 +173,8 @@ pub struct Facts {
     pub voice_two: bool,
     /// [`Fact::VoiceThree`].
     pub voice_three: bool,
+    /// [`Fact::FirstHolds`].
+    pub first_holds: bool,
 }
 
 impl Facts {
@@ -201,6 +206,7 @@ impl Facts {
             Fact::Subtunes => self.subtunes,
             Fact::VoiceTwo => self.voice_two,
             Fact::VoiceThree => self.voice_three,
+            Fact::FirstHolds => self.first_holds,
         }
     }
 }

@@ -17,7 +17,7 @@ use Rattle.song_facts.specs.declared.facts.Facts.{Facts}
 use Rattle.song_facts.specs.declared.facts.Fact.TheVariants.{RowTone, RowSlide, RowOnce, FirstMask, Legato, NoHardRestart}
 use Rattle.song_facts.specs.declared.facts.Fact.TheVariants.{WaveDelay, GateNote, NoteVibrato, VibratoDelay, NotePulse, NoteFilter}
 use Rattle.song_facts.specs.declared.facts.Fact.TheVariants.{VoiceTempo, CommonTempo, FunkTurns, FunkChoice}
-use Rattle.song_facts.specs.declared.facts.Fact.TheVariants.{OwnTimer, OwnWave, Subtunes, VoiceTwo, VoiceThree}
+use Rattle.song_facts.specs.declared.facts.Fact.TheVariants.{OwnTimer, OwnWave, Subtunes, VoiceTwo, VoiceThree, FirstHolds}
 use Rattle.song_facts.specs.Facts.{is_among, AreFacts}
 use Rattle.usage.specs.declared.features.TheConstants.{FEATURES}
 use Rattle.usage.specs.Marks.{IsMarked, count_of, AreMarks}
@@ -125,6 +125,7 @@ facts_with has = record {
   subtunes = has Subtunes;
   voice_two = has VoiceTwo;
   voice_three = has VoiceThree;
+  first_holds = has FirstHolds;
 }
 
 -- each is had in both or in neither
@@ -160,6 +161,7 @@ facts_of has f same =
       same Subtunes,
       same VoiceTwo,
       same VoiceThree,
+      same FirstHolds,
     ) refl
 
 pub one_facts : (song : Song) (a b : Facts) → AreFacts song a → AreFacts song b → a ≡ b

@@ -2,12 +2,14 @@
 
 ghost use Rattle.std.specs.Prelude.{◌≤◌, ◌<◌, ◌↔◌, IsTrue};
 ghost use Rattle.song_model.specs.declared.tables.TableName.TheVariants.{Wave};
+ghost use Rattle.song_model.specs.LookUp.{instrument_at};
 ghost use Rattle.play_model.specs.Used.{IsUsedInstrument};
 ghost use Rattle.play_model.specs.Reached.{IsReached};
 ghost use Rattle.song_facts.specs.Facts.{IsTone, IsSlide, IsOnce, IsGateNote, IsDelay, IsOfInstrument, IsOfPair};
 ghost use Rattle.song_facts.specs.Facts.{IsVoiceTempo, IsCommonTempo, IsFunkTurns, IsFunkChoice};
 ghost use Rattle.song_facts.specs.Facts.{HasSuchRow, HasSuchInstrument, HasSuchPair, HasSuchWaveRow, HasSubtunes};
 ghost use Rattle.song_facts.specs.Facts.{AreFacts};
+ghost use Rattle.song_facts.specs.Hold.{HoldsMore};
 ghost use Rattle.usage.specs.Marks.{AreMarks};
 ghost use Rattle.usage.specs.Found.{IsFoundOf};
 
@@ -15,7 +17,7 @@ use crate::channels::{has_channel_row, heard_patterns};
 use crate::found::Found;
 use crate::marks::ByteMarks;
 use crate::uses::has_mark;
-use song_facts::{Fact, Facts};
+use song_facts::{Fact, Facts, holds_more};
 use song_model::{Song, TableName};
 
 /// Whether a used instrument gives the song the fact.
@@ -40,6 +42,20 @@ fn has_pair(song: &Song, used: &[bool; 64], fact: Fact) -> bool
     let first = song.instrument(1);
     for instrument in 0..64u8 {
         if used[usize::from(instrument)] && fact.is_of_pair(&first, &song.instrument(instrument)) {
+            return true;
+        }
+    }
+    false
+}
+
+/// Whether a used instrument holds less before its notes than instrument 1.
+fn first_holds(song: &Song, used: &[bool; 64]) -> bool
+    requires { AreMarks (IsUsedInstrument song.now) used.now }
+    ensures { IsTrue result ↔ HasSuchInstrument song.now (λ i. HoldsMore (instrument_at song.now 1) i) }
+{
+    let first = song.instrument(1);
+    for instrument in 0..64u8 {
+        if used[usize::from(instrument)] && holds_more(&first, &song.instrument(instrument)) {
             return true;
         }
     }
@@ -189,6 +205,7 @@ impl Found {
             subtunes: has_subtunes(song),
             voice_two: has_channel_row(song, 2, &heard),
             voice_three: has_channel_row(song, 3, &heard),
+            first_holds: first_holds(song, used),
         }
     }
 }

@@ -4,7 +4,7 @@ use Rattle.song_facts.specs.declared.facts.Fact.TheVariants.{RowTone, RowSlide, 
 use Rattle.song_facts.specs.declared.facts.Fact.TheVariants.{NoHardRestart, WaveDelay, GateNote, NoteVibrato}
 use Rattle.song_facts.specs.declared.facts.Fact.TheVariants.{VibratoDelay, NotePulse, NoteFilter}
 use Rattle.song_facts.specs.declared.facts.Fact.TheVariants.{VoiceTempo, CommonTempo, FunkTurns, FunkChoice}
-use Rattle.song_facts.specs.declared.facts.Fact.TheVariants.{OwnTimer, OwnWave, Subtunes, VoiceTwo, VoiceThree}
+use Rattle.song_facts.specs.declared.facts.Fact.TheVariants.{OwnTimer, OwnWave, Subtunes, VoiceTwo, VoiceThree, FirstHolds}
 use Rattle.usage.proofs.found.Found.facts.Goals as goal
 
 pub returns : goal.returns
@@ -31,5 +31,6 @@ returns c = record {
     | Subtunes ↦ c.has_subtunes.ensures
     | VoiceTwo ↦ c.has_channel_row.ensures
     | VoiceThree ↦ c.has_channel_row-2.ensures
+    | FirstHolds ↦ c.first_holds.ensures
   ];
 }
