@@ -4,6 +4,9 @@ pub mod Laws
 mod Greatest
 mod OrderWalks
 mod SongWalks
--- Inner: packed songs and ways that were worked out by hand.
+-- Inner: which instruments hold something before their notes.
+mod LastHolders
+-- Inner: packed songs, ways and holders that were worked out by hand.
 mod WorkedUnpacked
 mod WorkedWalks
+mod WorkedHolders

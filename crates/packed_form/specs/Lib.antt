@@ -8,14 +8,16 @@ pub mod Faults
 pub mod Sizes
 pub mod CodeBounds
 pub mod ImagePlaces
--- To believe: a packed song read as a song, and when it stands for a song.
+-- To believe: a packed song read as a song, what its instruments hold, and when it stands for a song.
 pub mod Unpacked
+pub mod Holders
 pub mod StandsFor
 -- To believe: how many bytes of an orderlist are passed on the way to a pattern.
 pub mod WalkCount
--- Claimed: laws of these, and bounds, places, packed songs and ways worked out by hand.
+-- Claimed: laws of these, and bounds, places, packed songs, ways and holders worked out by hand.
 pub mod WalkLaws
 pub mod WorkedBounds
 pub mod WorkedPlaces
 pub mod WorkedUnpacked
 pub mod WorkedWalks
+pub mod WorkedHolders

@@ -1,5 +1,5 @@
 -- When a packed song stands for a song, from this project's own packed form: it is whole, and it plays what the song plays.
-use Rattle.std.specs.Prelude.{◌≡◌, ℕ, ◌<◌, List, length, Contains}
+use Rattle.std.specs.Prelude.{◌≡◌, ℕ, ◌<◌, false, List, length, Contains}
 use Rattle.song_model.specs.declared.features.Feature.{Feature}
 use Rattle.song_model.specs.declared.songs.Song.{Song}
 use Rattle.song_model.specs.Limits.{KeepsLimits}
@@ -18,6 +18,7 @@ use Rattle.asked_numbers.specs.Range.{IsNumberRange, AddsNoNumber}
 use Rattle.packed_form.specs.declared.packed_songs.PackedSubtune.{PackedSubtune}
 use Rattle.packed_form.specs.declared.packed_songs.PackedSong.{PackedSong}
 use Rattle.packed_form.specs.PackedSpells.{PackedSpells}
+use Rattle.packed_form.specs.Holders.{AreInOrder}
 use Rattle.packed_form.specs.Unpacked.{IsPackedOrder, unpacked_pattern, unpacked_song, packed_state, packed_trace}
 
 pub record ArePackedOrders (subtune : PackedSubtune) : Type 0 where
@@ -56,6 +57,9 @@ pub record StandsFor (packed : PackedSong) (song : Song) : Type 0 where
   pub features : AreFeatures song packed.features.0
   pub facts : AreFacts song packed.facts
   pub numbers : IsNumberRange song packed.numbers
+  -- its instruments stand in the order of what they hold before their notes, but where the first holds more than
+  -- another
+  pub order : packed.facts.first_holds ≡ false → AreInOrder packed.instruments
   -- the packed song, read as a song, has no other facts, and asks for no other numbers
   pub covers : AddsNoFact song (unpacked_song packed)
   pub asks : AddsNoNumber song (unpacked_song packed)

@@ -1,11 +1,13 @@
 //! Facts about packed songs, each the contract of a function that does nothing.
 
 ghost use Rattle.packed_form.specs.WalkLaws.{WalksEnd, WalkCountsAreBytes, EndmarksCount, PlainWalksAreTwo};
+ghost use Rattle.packed_form.specs.Holders.{HoldersStandLast};
 ghost use Rattle.packed_form.specs.WorkedBounds.{CodeBoundsAre, MostSizeIs};
 ghost use Rattle.packed_form.specs.WorkedPlaces.{EdgesAreWorked};
 ghost use Rattle.packed_form.specs.WorkedUnpacked.{OrdersAreUnpacked, PatternsAreUnpacked, PackedNotesAreUnpacked};
 ghost use Rattle.packed_form.specs.WorkedWalks.{PatternsAlone, TransposesArePassed, RepeatsArePassed, RunsArePassed};
 ghost use Rattle.packed_form.specs.WorkedWalks.{SubtunesAreCompared, EndsAreCounted};
+ghost use Rattle.packed_form.specs.WorkedHolders.{OrdersAreTold, HoldersAreCounted};
 
 /// Bounds of the player's code, and the bound of a packed song's size.
 pub fn worked_bounds()
@@ -52,4 +54,18 @@ pub fn worked_walks()
     ensures runs { RunsArePassed }
     ensures subtunes { SubtunesAreCompared }
     ensures ends { EndsAreCounted }
+{}
+
+/// Where the instruments of a packed song stand in the order of what they hold before their notes, those that hold so
+/// much are those whose numbers aren't below the first of them.
+#[tactic(auto, using(crate::proofs::LastHolders::holders_stand_last))]
+pub fn holders_stand_last()
+    ensures { HoldersStandLast }
+{}
+
+/// Instruments that are in order, and such as aren't, and the first that holds so much.
+#[tactic(auto, using(crate::proofs::WorkedHolders::orders_are_told, crate::proofs::WorkedHolders::holders_are_counted))]
+pub fn worked_holders()
+    ensures orders { OrdersAreTold }
+    ensures counts { HoldersAreCounted }
 {}

@@ -9,17 +9,20 @@
 //! this one plays as (`StandsFor`).
 //!
 //! The layer's one contract: `PackedSong::size` is how many bytes that is, and `PackedSong::walk_count` how many bytes
-//! of an orderlist are looked at, at most, to come to a pattern, which is a byte where each orderlist goes on for ever.
+//! of an orderlist are looked at, at most, to come to a pattern, which is a byte where each orderlist goes on for ever;
+//! and `PackedSong::first_holder` from which number on its instruments hold the gate or the envelope before a note,
+//! where they stand in the order of what they hold.
 //!
 //! It stands on `song_model` for tables and lists with limits, on `play_model` for what a song sounds like, on
-//! `song_facts` for a song's facts, on `asked_numbers` for the numbers that it asks for, and on `arrayvec` for patterns
-//! that take no memory. See `docs/packed-form.md`.
+//! `song_facts` for a song's facts and what an instrument holds, on `asked_numbers` for the numbers that it asks for,
+//! and on `arrayvec` for patterns that take no memory. See `docs/packed-form.md`.
 #![tactic(auto)]
 
 /// Facts about the definitions.
 pub mod claims;
 mod entries;
 mod faults;
+mod holders;
 mod packed_patterns;
 mod packed_songs;
 mod places;

@@ -62,7 +62,8 @@ pub struct PackedSong {
     /// What its player has to be able to do.
     pub features: FeatureBits,
     /// What its rows, instruments and wave programs have, in what two of its instruments differ, whether it has several
-    /// subtunes, and which of its channels have something to play: the player leaves out what no song like it needs.
+    /// subtunes, which of its channels have something to play, and whether its first instrument holds more before a note
+    /// than another: the player leaves out what no song like it needs.
     pub facts: Facts,
     /// The numbers of the frequency table that it asks for.
     pub numbers: NumberRange,
