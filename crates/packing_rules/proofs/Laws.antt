@@ -19,6 +19,11 @@ pub use Rattle.packing_rules.proofs.FirstSeen.{with_new, first_seen_push, same_r
 -- where an item stands among others, and among those with no equal one before them
 pub use Rattle.packing_rules.proofs.FirstPlaces.{place_there, place_of_map, any_of_map, new_place, old_place}
 pub use Rattle.packing_rules.proofs.FirstPlaces.{with_new_length, first_seen_has, first_seen_length, first_seen_all}
+-- the used instruments in the order of what they hold before their notes: how many they are, where each stands, and
+-- where what they hold doesn't fall
+pub use Rattle.packing_rules.proofs.InstrumentOrder.{instruments_count, instruments_few, IsPlaced, place_most}
+pub use Rattle.packing_rules.proofs.InstrumentOrder.{IsOfOrder, all_of_order, instrument_placed, no_instrument}
+pub use Rattle.packing_rules.proofs.InstrumentOrder.{first_stays_first, order_rises}
 -- a song has one size of each kind, and storing things once makes nothing longer
 pub use Rattle.packing_rules.proofs.SizesOfSongs.{same_sets, sizes_are_the_songs, packed_size_is_within}
 -- the tables of a song that can be played are whole

@@ -11,6 +11,8 @@ mod NewPointers
 -- Inner: lists without their equal items.
 mod FirstSeen
 mod FirstPlaces
+-- Inner: the order of the instruments.
+mod InstrumentOrder
 -- Inner: sizes, programs and new numbers that were worked out by hand.
 mod WorkedSizes
 mod WorkedNumbers

@@ -1,9 +1,9 @@
 -- The numbers that the used parts of a song get in its packed song, from this project's own packed form. Tables come in
 -- the order speed, filter, pulse, wave, then patterns. 0, which names nothing, stays 0. The number of what isn't used
 -- means nothing.
-use Rattle.std.specs.Prelude.{ℕ, ◌+◌, Bool, not, ◌&&◌, ◌==◌, true, false, if◌then◌else◌, List, []}
-use Rattle.std.specs.Prelude.{◌∷◌, length, map, filter, count_by, Option, Some, None}
-use Rattle.std.specs.List.{position_or_len, range_with_len}
+use Rattle.std.specs.Prelude.{ℕ, ◌+◌, ◌-◌, nat_eq, Bool, not, ◌&&◌, ◌==◌, true, false, if◌then◌else◌, List, []}
+use Rattle.std.specs.Prelude.{◌∷◌, ◌++◌, length, map, filter, count_by, Option, Some, None}
+use Rattle.std.specs.List.{list_any, position_or_len, range_with_len}
 use Rattle.std.specs.Str.{bytes_eq}
 use Rattle.song_model.specs.declared.rows.Row.{Row}
 use Rattle.song_model.specs.declared.tables.TableRow.{TableRow}
@@ -11,9 +11,13 @@ use Rattle.song_model.specs.declared.tables.TableName.{TableName}
 use Rattle.song_model.specs.declared.tables.TableName.TheVariants.{Wave, Pulse, Filter, Speed}
 use Rattle.song_model.specs.declared.tables.TheConstants.{MOST_TABLE_ROWS}
 use Rattle.song_model.specs.declared.patterns.TheConstants.{MOST_PATTERNS}
+use Rattle.song_model.specs.declared.instruments.TheConstants.{MOST_INSTRUMENTS}
 use Rattle.song_model.specs.declared.songs.Song.{Song}
-use Rattle.song_model.specs.LookUp.{speed_row, pattern_at}
+use Rattle.song_model.specs.LookUp.{speed_row, pattern_at, instrument_at}
 use Rattle.song_model.specs.Pointers.{command_table, wave_row_table}
+use Rattle.song_facts.specs.declared.hold.Hold.{Hold}
+use Rattle.song_facts.specs.declared.hold.Hold.TheVariants.{Nothing, Envelope, Gate}
+use Rattle.song_facts.specs.Hold.{hold_of, how_much}
 use Rattle.packed_form.specs.PackedText.{packed_text}
 use Rattle.packing_rules.specs.Segments.{ProgramTable, numbers, row_of, keeps, stand_in}
 use Rattle.packing_rules.specs.ProgramMaps.{retargeted}
@@ -105,13 +109,29 @@ table_number song used Speed p = foreign_number song used Speed p
 
 -- ---- instruments and patterns
 
-unfoldable pub instrument_number : UsedSets → ℕ → ℕ
-instrument_number used n = rank used.instruments n
+-- the used instruments behind the first that hold this before their notes, in ascending order
+abbrev pub holders : Song → UsedSets → Hold → List ℕ
+holders song used hold =
+    filter (λ n. used.instruments n && (how_much (hold_of (instrument_at song n)) == how_much hold))
+    (range_with_len 2 (MOST_INSTRUMENTS - 1))
+
+-- Each voice begins with instrument 1, which stays the first. Behind it stand those that hold nothing, those that hold
+-- the envelope, and those that hold the gate.
+unfoldable pub instruments_in_order : Song → UsedSets → List ℕ
+instruments_in_order song used =
+    1 ∷ (holders song used Nothing ++ (holders song used Envelope ++ holders song used Gate))
+
+-- the place of a number among others, from 1 on; 0 where it isn't there
+abbrev pub place_in : List ℕ → ℕ → ℕ
+place_in items n = if list_any (nat_eq n) items then position_or_len (nat_eq n) items + 1 else 0
+
+unfoldable pub instrument_number : Song → UsedSets → ℕ → ℕ
+instrument_number song used n = place_in (instruments_in_order song used) n
 
 -- a row with its instrument and its pointer renumbered
 abbrev pub renumbered_row : Song → UsedSets → Row → Row
 renumbered_row song used row = record row {
-  instrument = instrument_number used row.instrument;
+  instrument = instrument_number song used row.instrument;
   param = pointer_number (table_number song used) (command_table row.command) row.param;
 }
 

@@ -104,7 +104,30 @@ WavesAreStoredOnce =
 -- ---- instruments and patterns
 
 abbrev pub InstrumentsMoveUp : Type 0
-InstrumentsMoveUp = map (instrument_number crowded_sets) (0 ∷ 1 ∷ 3 ∷ []) ≡ 0 ∷ 1 ∷ 2 ∷ []
+InstrumentsMoveUp = map (instrument_number crowded_song crowded_sets) (0 ∷ 1 ∷ 2 ∷ 3 ∷ []) ≡ 0 ∷ 1 ∷ 0 ∷ 2 ∷ []
+
+-- a song with five instruments, of which the second and the fourth hold the gate and the third the envelope
+abbrev pub holding_song : Song
+holding_song = record empty_song {
+  instruments = plucked ∷ record plucked { gate_timer = 0x42 } ∷ record plucked { gate_timer = 0x82 }
+      ∷ record plucked { gate_timer = 0xC2 } ∷ plucked ∷ [];
+}
+
+abbrev pub holding_sets : List ℕ → UsedSets
+holding_sets instruments = record crowded_sets { instruments = among instruments }
+
+-- All five are used: the last moves up behind the first, before the one that holds the envelope and those that hold
+-- the gate. Without the last one the third moves up. A first that holds its gate stays the first.
+abbrev pub InstrumentsAreInOrder : Type 0
+InstrumentsAreInOrder =
+    (map (instrument_number holding_song (holding_sets (1 ∷ 2 ∷ 3 ∷ 4 ∷ 5 ∷ []))) (numbers 5)
+    ≡ 1 ∷ 4 ∷ 3 ∷ 5 ∷ 2 ∷ [])
+    × (map (instrument_number holding_song (holding_sets (1 ∷ 2 ∷ 3 ∷ 4 ∷ []))) (numbers 5)
+    ≡ 1 ∷ 3 ∷ 2 ∷ 4 ∷ 0 ∷ [])
+    × (map (instrument_number (record holding_song {
+      instruments = record plucked { gate_timer = 0x42 } ∷ plucked ∷ record plucked { gate_timer = 0x82 } ∷ [];
+    }) (holding_sets (1 ∷ 2 ∷ 3 ∷ []))) (numbers 3)
+    ≡ 1 ∷ 2 ∷ 3 ∷ [])
 
 -- what patterns 0 and 4 pack to, and between them patterns 2 and 3. Commands 8, 9, $A and 1 have new pointers, command 5
 -- has its parameter

@@ -11,8 +11,8 @@ ghost use Rattle.packing_rules.specs.WorkedPrograms.{OthersAreKept, JumpsIntoDro
 ghost use Rattle.packing_rules.specs.WorkedPrograms.{JumpsIntoTheMiddleAreKept, LoopsAreAsFar};
 ghost use Rattle.packing_rules.specs.WorkedNumbers.{CrowdedSongCanBePlayed, CrowdedSetsAreUsed, SpeedsAreSharedOnce};
 ghost use Rattle.packing_rules.specs.WorkedNumbers.{PulsesAreStoredOnce, FiltersMoveUp, WavesAreStoredOnce};
-ghost use Rattle.packing_rules.specs.WorkedNumbers.{InstrumentsMoveUp, CrowdedTexts, PatternsAreStoredOnce};
-ghost use Rattle.packing_rules.specs.WorkedNumbers.{CrowdedSizes};
+ghost use Rattle.packing_rules.specs.WorkedNumbers.{InstrumentsMoveUp, InstrumentsAreInOrder, CrowdedTexts};
+ghost use Rattle.packing_rules.specs.WorkedNumbers.{PatternsAreStoredOnce, CrowdedSizes};
 
 /// Which programs are stored once, and which aren't.
 pub fn worked_programs()
@@ -43,7 +43,7 @@ pub fn worked_numbers()
     ensures sets { CrowdedSetsAreUsed }
     ensures speeds { SpeedsAreSharedOnce }
     ensures tables { PulsesAreStoredOnce × FiltersMoveUp × WavesAreStoredOnce }
-    ensures instruments { InstrumentsMoveUp }
+    ensures instruments { InstrumentsMoveUp × InstrumentsAreInOrder }
     ensures patterns { CrowdedTexts × PatternsAreStoredOnce }
     ensures sizes { CrowdedSizes }
 {}

@@ -8,8 +8,9 @@
 //! The layer's one contract: the map to the rows that stay keeps programs, so what is read in them stays, and storing
 //! things once makes nothing longer.
 //!
-//! It stands on `packed_form`, whose texts of patterns it compares, on `song_model` for songs, and on `play_model` for
-//! what a song uses and when it can be played. See `docs/packed-form.md`.
+//! It stands on `packed_form`, whose texts of patterns it compares, on `song_model` for songs, on `song_facts` for what
+//! instruments hold before their notes, and on `play_model` for what a song uses and when it can be played. See
+//! `docs/packed-form.md`.
 #![tactic(auto)]
 
 /// Facts about the definitions.

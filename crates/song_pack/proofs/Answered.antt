@@ -7,7 +7,7 @@ use Rattle.usage.specs.declared.parts.UsedParts.{UsedParts}
 use Rattle.usage.specs.Parts.{AreUsedParts}
 use Rattle.packed_form.specs.declared.packed_songs.PackedSong.{PackedSong}
 use Rattle.packing_rules.specs.UsedSets.{UsedSets, AreUsedSets}
-use Rattle.packing_rules.specs.Renumbering.{rank}
+use Rattle.packing_rules.specs.Renumbering.{instrument_number}
 use Rattle.packed_form.specs.StandsFor.{StandsFor}
 use Rattle.packing_rules.proofs.Laws.{same_sets, packed_size_is_within}
 use Rattle.table_pack.specs.Marks.{is_marked}
@@ -25,7 +25,7 @@ use Rattle.song_pack.proofs.Stands.{stands_for}
 
 module _ (song : Song) (parts : UsedParts) (tables : PackedTables) (numbers : List ℕ) (play : IsPlayable song)
     (are : AreUsedParts song parts) (tables_are : AreTables song (sets_of parts) tables)
-    (numbers_are : (n : ℕ) → n < 64 → slice_index numbers n ≡ rank (is_marked parts.instruments) n) where
+    (numbers_are : (n : ℕ) → n < 64 → slice_index numbers n ≡ instrument_number song (sets_of parts) n) where
   same : (used : UsedSets) → AreUsedSets song used → sets_of parts ≡ used
   same used is = same_sets song (sets_of parts) used (used_sets song parts are) is
 
@@ -42,7 +42,7 @@ module _ (song : Song) (parts : UsedParts) (tables : PackedTables) (numbers : Li
 
     pub size : (used : UsedSets) → AreUsedSets song used → KeepsLimits song → HasPackedSize packed song used
     size used is limits =
-        let e = size_is song (sets_of parts) packed (is_packed limits) in
+        let e = size_is song (sets_of parts) packed (used_sets song parts are) (is_packed limits) in
         let within = packed_size_is_within song (sets_of parts) in
         subst (HasPackedSize packed song) (same used is) (record { is = e; within = omega arith })
 

@@ -16,12 +16,13 @@ use Rattle.play_model.specs.Used.{IsChannel, IsUsedInstrument}
 use Rattle.same_frames.specs.Maps.{Maps, moved_row, moved_pointer, IsRowFor, IsInstrumentFor}
 use Rattle.song_facts.specs.declared.facts.Fact.TheVariants.{RowTone, RowSlide, RowOnce, FirstMask, Legato, NoHardRestart}
 use Rattle.song_facts.specs.declared.facts.Fact.TheVariants.{WaveDelay, GateNote, NoteVibrato, VibratoDelay, NotePulse, NoteFilter}
-use Rattle.song_facts.specs.declared.facts.Fact.TheVariants.{VoiceTempo, CommonTempo, FunkTurns, FunkChoice}
-use Rattle.song_facts.specs.declared.facts.Fact.TheVariants.{OwnTimer, OwnWave, Subtunes, VoiceTwo, VoiceThree}
+use Rattle.song_facts.specs.declared.facts.Fact.TheVariants.{VoiceTempo, CommonTempo, FunkTurns, FunkChoice, OwnTimer}
+use Rattle.song_facts.specs.declared.facts.Fact.TheVariants.{OwnWave, Subtunes, VoiceTwo, VoiceThree, FirstHolds}
 use Rattle.song_facts.specs.Facts.{IsTone, IsSlide, IsOnce, IsGateNote, IsHeard, IsMask, IsLegato, KeepsEnvelope}
 use Rattle.song_facts.specs.Facts.{HasVibratoDelay, timer_of, IsVoiceTempo, IsCommonTempo, IsFunkTurns, IsFunkChoice}
 use Rattle.song_facts.specs.Facts.{HasSuchRow, HasChannelRow, HasSuchInstrument, HasSuchPair, HasSuchWaveRow}
 use Rattle.song_facts.specs.Facts.{AddsNoFact}
+use Rattle.song_facts.specs.Hold.{held_by, hold_of, how_much, HoldsMore}
 use Rattle.same_frames.specs.OrderLaws.{moved_order, moved_subtune}
 use Rattle.same_frames.proofs.Laws.{channel_moved, old_some}
 use Rattle.song_pack.proofs.UsedParts.{IsMoved, under, channel_played, subtune_from, order_row_from}
@@ -69,6 +70,9 @@ module _ (maps : Maps) where
   gate_timer_keeps : (IsSuch : ℕ → Type 0) → InstrumentsKeep (λ i. IsSuch i.gate_timer)
   unfolding InstrumentsKeep
   gate_timer_keeps IsSuch i other is such = subst IsSuch (ap (λ (x : Instrument). x.gate_timer) is.moved) such
+
+  gate_timer_is : (i other : Instrument) → IsInstrumentFor maps i other → other.gate_timer ≡ i.gate_timer
+  gate_timer_is i other is = ap (λ (x : Instrument). x.gate_timer) is.moved
 
   vibrato_delay_keeps : (IsSuch : ℕ → Type 0) → InstrumentsKeep (λ i. IsSuch i.vibrato_delay)
   unfolding InstrumentsKeep
@@ -124,6 +128,24 @@ module _ (maps : Maps) where
           is_such = keeps (instrument_at song from.old) (instrument_at other has.instrument)
               (subst (λ (n : ℕ). IsInstrumentFor maps (instrument_at song from.old) (instrument_at other n)) from.new
               (m.agrees.instruments.stands_for from.old from.is_such)) has.is_such;
+        }
+
+    -- the first instrument, which stays the first, holds more than a used one
+    first_covered : HasSuchInstrument other (λ i. HoldsMore (instrument_at other 1) i) →
+        HasSuchInstrument song (λ i. HoldsMore (instrument_at song 1) i)
+    first_covered has =
+        let first : HasSuchInstrument song (λ i. HoldsMore (instrument_at other 1) i) =
+        instrument_covered (λ i. HoldsMore (instrument_at other 1) i)
+        (gate_timer_keeps (λ t. how_much (held_by t) < how_much (hold_of (instrument_at other 1)))) has in
+        let same : (instrument_at other 1).gate_timer ≡ (instrument_at song 1).gate_timer =
+        ap (λ (n : ℕ). (instrument_at other n).gate_timer) (sym m.first)
+        ∙ gate_timer_is (instrument_at song 1) (instrument_at other (maps.instrument 1))
+        (m.agrees.instruments.stands_for 1 (inl refl)) in
+        record {
+          instrument = first.instrument;
+          used = first.used;
+          is_such = subst (λ (t : ℕ).
+              how_much (hold_of (instrument_at song first.instrument)) < how_much (held_by t)) same first.is_such;
         }
 
     -- two used instruments differ in a number that each has from the one that it stands for
@@ -209,3 +231,4 @@ module _ (maps : Maps) where
     covered Subtunes has = subst (λ (n : ℕ). 1 < n) as_many_playable has
     covered VoiceTwo has = channel_covered 2 (record { first = lit≤ tt; last = lit≤ tt }) IsHeard heard_keeps has
     covered VoiceThree has = channel_covered 3 (record { first = lit≤ tt; last = lit≤ tt }) IsHeard heard_keeps has
+    covered FirstHolds has = first_covered has

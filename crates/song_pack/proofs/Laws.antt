@@ -2,7 +2,7 @@
 
 -- the marks of used parts are tests of what the song uses
 pub use Rattle.song_pack.proofs.MadeTables.{used_sets}
--- a packed song has the size of its song
-pub use Rattle.song_pack.proofs.Sizes.{size_is}
+-- a packed song has as many instruments as its song uses, and the size of its song
+pub use Rattle.song_pack.proofs.Sizes.{instruments_are_counted, size_is}
 -- all that a frame of a complete song looks up is stored
 pub use Rattle.song_pack.proofs.FoundRows.{complete_songs_find_all}

@@ -22,5 +22,6 @@ mod MadeSongs
 mod HandedOn
 mod Answered
 mod FoundRows
+mod FoundPlaces
 -- A size that is worked by hand.
 mod WorkedSizes

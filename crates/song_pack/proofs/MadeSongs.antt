@@ -9,7 +9,6 @@ use mathlib.Core.Path.{fun_ext}
 use Rattle.song_model.specs.declared.rows.Row.{Row}
 use Rattle.song_model.specs.declared.orders.Order.{Order}
 use Rattle.song_model.specs.declared.orders.Subtune.{Subtune}
-use Rattle.song_model.specs.declared.instruments.TheConstants.{MOST_INSTRUMENTS}
 use Rattle.song_model.specs.declared.patterns.TheConstants.{MOST_PATTERNS}
 use Rattle.song_model.specs.declared.tables.TableName.{TableName}
 use Rattle.song_model.specs.declared.features.FeatureBits.{FeatureBits}
@@ -26,15 +25,18 @@ use Rattle.asked_numbers.specs.Range.{IsNumberRange}
 use Rattle.usage.specs.declared.parts.UsedParts.{UsedParts}
 use Rattle.usage.specs.Parts.{AreUsedParts}
 use Rattle.packed_form.specs.declared.packed_songs.PackedSubtune.{PackedSubtune}
+use Rattle.packed_form.specs.declared.packed_songs.PackedInstrument.{PackedInstrument}
 use Rattle.packed_form.specs.declared.packed_songs.PackedSong.{PackedSong}
 use Rattle.packed_form.specs.declared.packed_patterns.TheConstants.{MOST_PACKED_BYTES}
 use Rattle.packed_form.specs.PackedText.{packed_text}
-use Rattle.packing_rules.specs.Renumbering.{rank, first_seen, pointer_number, table_number, instrument_number}
+use Rattle.packing_rules.specs.Renumbering.{first_seen, pointer_number, table_number, instruments_in_order}
+use Rattle.packing_rules.specs.Renumbering.{place_in, instrument_number}
 use Rattle.packing_rules.specs.Renumbering.{renumbered_row, pattern_text, pattern_texts, pattern_number}
+use Rattle.packing_rules.proofs.Laws.{instruments_few}
 use Rattle.table_pack.specs.Marks.{is_marked}
 use Rattle.song_pack.specs.declared.tables.PackedTables.{PackedTables}
 use Rattle.song_pack.specs.Numbers.{sets_of, row_of, numbered_row}
-use Rattle.song_pack.specs.Packed.{passing_numbers, order_byte, order_bytes, packed_subtune, packed_instrument}
+use Rattle.song_pack.specs.Packed.{order_byte, order_bytes, packed_subtune, packed_instrument}
 use Rattle.song_pack.specs.Packed.{AreSpeeds, IsPacked}
 use Rattle.song_pack.specs.Tables.{AreTables}
 use Rattle.song_pack.specs.declared.faults.PackFault.{PackFault}
@@ -43,6 +45,37 @@ use Rattle.song_pack.specs.Answers.{AreShort, IsCause}
 use Rattle.song_pack.specs.Texts.{text_under, texts_below, ArePatterns, IsCaused}
 use Rattle.song_pack.proofs.UsedParts.{channel_played}
 use Rattle.song_pack.proofs.PlayedOrders.{map_same}
+
+-- ---- instruments in their order
+
+-- there are no more than a song may have
+pub order_few : (song : Song) (parts : UsedParts) (order : List ℕ) → order ≡ instruments_in_order song (sets_of parts) →
+    length order ≤ 63
+order_few song parts order order_is =
+    let long = ap length order_is in
+    let few = instruments_few song (sets_of parts) in
+    omega arith
+
+-- what is made of them is packed in that order
+pub placed : (song : Song) (parts : UsedParts) (tables : PackedTables) (order : List ℕ)
+    (instruments : List PackedInstrument) → order ≡ instruments_in_order song (sets_of parts) →
+    instruments ≡ map (λ n. packed_instrument (row_of tables.numbers) (instrument_at song n)) order →
+    instruments
+    ≡ map (λ n. packed_instrument (row_of tables.numbers) (instrument_at song n))
+    (instruments_in_order song (sets_of parts))
+placed song parts tables order instruments order_is are =
+    are ∙ ap (map (λ n. packed_instrument (row_of tables.numbers) (instrument_at song n))) order_is
+
+-- their places are their new numbers
+pub numbered : (song : Song) (parts : UsedParts) (order numbers : List ℕ) →
+    order ≡ instruments_in_order song (sets_of parts) →
+    ((n : ℕ) → n < 64 → slice_index numbers n ≡ place_in order n) → (n : ℕ) → n < 64 →
+    slice_index numbers n ≡ instrument_number song (sets_of parts) n
+unfolding instrument_number
+numbered song parts order numbers order_is places n low =
+    places n low ∙ ap (λ (items : List ℕ). place_in items n) order_is
+
+-- ---- packed songs
 
 -- a packed song was made of these parts
 pub record IsMadeOf (song : Song) (parts : UsedParts) (tables : PackedTables) (numbers to : List ℕ)
@@ -54,7 +87,7 @@ pub record IsMadeOf (song : Song) (parts : UsedParts) (tables : PackedTables) (n
   pub speed : packed.speed ≡ tables.speed
   pub instruments : packed.instruments
       ≡ map (λ n. packed_instrument (row_of tables.numbers) (instrument_at song n))
-      (passing_numbers (is_marked parts.instruments) MOST_INSTRUMENTS)
+      (instruments_in_order song (sets_of parts))
   pub patterns : ArePatterns (text_under song tables.numbers numbers) (is_marked parts.patterns) packed.patterns to
   pub subtunes : packed.subtunes ≡ map (packed_subtune (slice_index to)) (playable_subtunes song)
   pub features : packed.features ≡ parts.features
@@ -65,13 +98,12 @@ module _ (song : Song) (parts : UsedParts) (limits : KeepsLimits song) (are : Ar
   -- ---- numbers of rows
 
   module _ (tables : PackedTables) (numbers : List ℕ) (tables_are : AreTables song (sets_of parts) tables)
-      (numbers_are : (n : ℕ) → n < 64 → slice_index numbers n ≡ rank (is_marked parts.instruments) n) where
+      (numbers_are : (n : ℕ) → n < 64 → slice_index numbers n ≡ instrument_number song (sets_of parts) n) where
     row_numbers_are : row_of tables.numbers ≡ table_number song (sets_of parts)
     row_numbers_are = fun_ext (λ (name : TableName). fun_ext (λ (p : ℕ). tables_are.numbers name p))
 
     row_is : (row : Row) → IsRow row →
         numbered_row (row_of tables.numbers) (slice_index numbers) row ≡ renumbered_row song (sets_of parts) row
-    unfolding instrument_number
     row_is row range =
         let small = range.instrument in
         let instrument = numbers_are row.instrument (omega arith) in
@@ -79,7 +111,7 @@ module _ (song : Song) (parts : UsedParts) (limits : KeepsLimits song) (are : Ar
         { instrument = n; param = pointer_number (row_of tables.numbers) (command_table row.command) row.param })
         instrument
         ∙ ap (λ (f : TableName → ℕ → ℕ). record row {
-          instrument = rank (is_marked parts.instruments) row.instrument;
+          instrument = instrument_number song (sets_of parts) row.instrument;
           param = pointer_number f
               (command_table row.command) row.param;
         }) row_numbers_are
@@ -182,7 +214,7 @@ module _ (song : Song) (parts : UsedParts) (limits : KeepsLimits song) (are : Ar
       patterns = list_is packed.patterns to made.patterns;
       instruments = made.instruments
           ∙ ap (λ (f : TableName → ℕ → ℕ). map (λ n. packed_instrument f (instrument_at song n))
-          (passing_numbers (is_marked parts.instruments) MOST_INSTRUMENTS)) row_numbers_are;
+          (instruments_in_order song (sets_of parts))) row_numbers_are;
       wave = made.wave ∙ tables_are.wave;
       pulse = made.pulse ∙ tables_are.pulse;
       filter = made.filter ∙ tables_are.filter;

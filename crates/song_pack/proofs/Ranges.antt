@@ -5,9 +5,7 @@ use Rattle.std.proofs.Common.{◌∙◌, ap, subst, inl, inr, arith}
 use Rattle.std.specs.List.{filter}
 use Rattle.std.proofs.lemmas.Bool.{cases_lt, cases_eq, ne_eqb}
 use Rattle.std.proofs.lemmas.List.{length-map, length-replicate}
-use Rattle.std.proofs.lemmas.List.FromFn.{length-range_with_len}
-use Rattle.std.proofs.lemmas.List.Elements.{All-contains_itself, All-map, All-weaker, All-replicate, All-from_get_or}
-use Rattle.base.proofs.Laws.{filter_of}
+use Rattle.std.proofs.lemmas.List.Elements.{All-contains, All-contains_itself, All-map, All-weaker, All-replicate, All-from_get_or}
 use Rattle.song_model.specs.declared.orders.Order.{Order}
 use Rattle.song_model.specs.declared.orders.Subtune.{Subtune}
 use Rattle.song_model.specs.declared.orders.TheConstants.{MOST_SUBTUNES}
@@ -36,11 +34,13 @@ use Rattle.packing_rules.specs.Segments.{ProgramTable, IsWhole, numbers, keeps}
 use Rattle.packing_rules.specs.UsedSets.{UsedSets, AreUsedSets}
 use Rattle.packing_rules.specs.Renumbering.{rank, same_row, speed_rows, wave_row, filter_programs, pulse_programs}
 use Rattle.packing_rules.specs.Renumbering.{wave_programs, table_number, program_number, program_rows}
+use Rattle.packing_rules.specs.Renumbering.{instruments_in_order}
 use Rattle.packed_form.specs.Unpacked.{unpacked_instrument, unpacked_pattern, unpacked_song}
 use Rattle.packing_rules.proofs.Laws.{kept_parts, kept_stands, playable_programs_are_whole, first_seen_all}
+use Rattle.packing_rules.proofs.Laws.{instruments_few, IsOfOrder, all_of_order}
 use Rattle.pattern_pack.proofs.Laws.{spelled_are_patterns}
 use Rattle.table_pack.proofs.Laws.{rank_kept, rank_left}
-use Rattle.song_pack.specs.Packed.{new_numbers, passing_numbers, packed_instrument, IsPacked}
+use Rattle.song_pack.specs.Packed.{new_numbers, packed_instrument, IsPacked}
 use Rattle.same_frames.proofs.Laws.{image_of}
 use Rattle.song_pack.proofs.StoredTables.{tables_agree, packed_few, program_count, filter_number, pulse_number, wave_number}
 use Rattle.song_pack.proofs.StoredPatterns.{number_fits, speeds_few, filter_few, few_texts, packed_is, pattern_spelled}
@@ -217,25 +217,30 @@ module _ (song : Song) (used : UsedSets) (packed : PackedSong) (limits : KeepsLi
         name = zero_text 16;
       }
 
+  -- the first is used, and so are those behind it
+  is_used_one : (i : ℕ) → IsOfOrder used i → IsUsedInstrument song i
+  is_used_one i kept = elim (cases_eq i 1) [
+    | inl first ↦ inl first
+    | inr other ↦ (let low = kept.first in (are.instruments i).0 (kept.kept (grind arith)))
+  ]
+
   instrument_from : (i : PackedInstrument) → Contains packed.instruments i → IsInstrument (unpacked_instrument i)
-  unfolding passing_numbers
   instrument_from i has =
       let image = image_of (λ n. packed_instrument (table_number song used) (instrument_at song n))
-      (filter used.instruments (numbers MOST_INSTRUMENTS)) i
+      (instruments_in_order song used) i
       (subst (λ (all : List PackedInstrument). Contains all i) is.instruments has) in
-      let kept = filter_of used.instruments (numbers MOST_INSTRUMENTS) image.from image.has in
+      let kept = All-contains (IsOfOrder used) (instruments_in_order song used) image.from (all_of_order song used)
+      image.has in
       subst (λ (x : PackedInstrument). IsInstrument (unpacked_instrument x)) image.is
-      (instrument_fits image.from ((are.instruments image.from).0 kept.1))
+      (instrument_fits image.from (is_used_one image.from kept))
 
   pub instruments_in_range : KeepsLimit MOST_INSTRUMENTS IsInstrument (unpacked_song packed).instruments
-  unfolding passing_numbers
   instruments_in_range =
-      let ns = filter used.instruments (numbers MOST_INSTRUMENTS) in
       let count = length-map packed.instruments unpacked_instrument in
       let same = ap length is.instruments in
-      let made = length-map ns (λ n. packed_instrument (table_number song used) (instrument_at song n)) in
-      let few = filter_few used.instruments (numbers MOST_INSTRUMENTS) in
-      let all = length-range_with_len 1 MOST_INSTRUMENTS in
+      let made = length-map (instruments_in_order song used)
+      (λ n. packed_instrument (table_number song used) (instrument_at song n)) in
+      let few = instruments_few song used in
       record {
         count = omega arith;
         each = All-map IsInstrument unpacked_instrument packed.instruments

@@ -1,8 +1,8 @@
 -- A packed song has the size that its song has.
-use Rattle.std.proofs.Common.{◌≡◌, ℕ, List, [], ◌∷◌, map, length, refl, ◌∙◌, ap, arith}
-use Rattle.std.specs.List.{filter, sum_by, count_by}
+use Rattle.std.proofs.Common.{◌≡◌, ℕ, List, [], ◌∷◌, map, length, refl, ◌∙◌, ap, inl, arith}
+use Rattle.std.specs.List.{sum_by, count_by}
 use Rattle.std.proofs.lemmas.List.{length-map, length-append}
-use Rattle.std.proofs.lemmas.List.Sums.{sum_by-cons, length-filter}
+use Rattle.std.proofs.lemmas.List.Sums.{sum_by-cons}
 use Rattle.song_model.specs.declared.orders.Order.{Order}
 use Rattle.song_model.specs.declared.orders.Subtune.{Subtune}
 use Rattle.song_model.specs.declared.instruments.TheConstants.{MOST_INSTRUMENTS}
@@ -12,11 +12,12 @@ use Rattle.song_model.specs.LookUp.{instrument_at, playable_subtunes}
 use Rattle.packed_form.specs.declared.packed_songs.PackedSong.{PackedSong}
 use Rattle.packed_form.specs.Sizes.{list_size, subtune_size, packed_song_size}
 use Rattle.packing_rules.specs.Segments.{ProgramTable, numbers, keeps}
-use Rattle.packing_rules.specs.UsedSets.{UsedSets}
-use Rattle.packing_rules.specs.Renumbering.{program_rows, table_number, pattern_number}
+use Rattle.packing_rules.specs.UsedSets.{UsedSets, AreUsedSets}
+use Rattle.packing_rules.specs.Renumbering.{program_rows, table_number, instruments_in_order, pattern_number}
 use Rattle.packing_rules.specs.SongSizes.{order_size, orders_size, packed_size}
+use Rattle.packing_rules.proofs.Laws.{instruments_count}
 use Rattle.song_pack.proofs.StoredTables.{program_count}
-use Rattle.song_pack.specs.Packed.{order_byte, order_bytes, packed_subtune, passing_numbers, packed_instrument, IsPacked}
+use Rattle.song_pack.specs.Packed.{order_byte, order_bytes, packed_subtune, packed_instrument, IsPacked}
 
 order_length : (number : ℕ → ℕ) (order : Order) → list_size (order_bytes number order) ≡ order_size order
 order_length number order =
@@ -46,18 +47,23 @@ rows_length : (table : ProgramTable) (rows : List TableRow) → rows ≡ program
     length rows ≡ count_by (keeps table) (numbers (length table.rows))
 rows_length table rows are = ap length are ∙ program_count table
 
-pub size_is : (song : Song) (used : UsedSets) (packed : PackedSong) → IsPacked song used packed →
-    packed_song_size packed ≡ packed_size song used
-unfolding packed_size passing_numbers
-size_is song used packed is =
+-- as many instruments as are used
+pub instruments_are_counted : (song : Song) (used : UsedSets) (packed : PackedSong) → AreUsedSets song used →
+    IsPacked song used packed → length packed.instruments ≡ count_by used.instruments (numbers MOST_INSTRUMENTS)
+instruments_are_counted song used packed are is =
+    ap length is.instruments
+    ∙ length-map (instruments_in_order song used)
+    (λ n. packed_instrument (table_number song used) (instrument_at song n))
+    ∙ instruments_count song used ((are.instruments 1).1 (inl refl))
+
+pub size_is : (song : Song) (used : UsedSets) (packed : PackedSong) → AreUsedSets song used →
+    IsPacked song used packed → packed_song_size packed ≡ packed_size song used
+unfolding packed_size
+size_is song used packed are is =
     let subtunes : sum_by subtune_size packed.subtunes ≡ sum_by orders_size (playable_subtunes song) =
     ap (sum_by subtune_size) is.subtunes ∙ subtunes_length (pattern_number song used) (playable_subtunes song) in
     let patterns = ap (sum_by list_size) is.patterns in
-    let kept = filter used.instruments (numbers MOST_INSTRUMENTS) in
-    let instruments : length packed.instruments ≡ count_by used.instruments (numbers MOST_INSTRUMENTS) =
-    ap length is.instruments
-    ∙ length-map kept (λ n. packed_instrument (table_number song used) (instrument_at song n))
-    ∙ length-filter used.instruments (numbers MOST_INSTRUMENTS) in
+    let instruments = instruments_are_counted song used packed are is in
     let wave = rows_length _ packed.wave is.wave in
     let pulse = rows_length _ packed.pulse is.pulse in
     let filter_rows = rows_length _ packed.filter is.filter in

@@ -1,5 +1,5 @@
 -- A packed song stands for the song that it was made of.
-use Rattle.std.proofs.Common.{◌≡◌, ℕ, zero, suc, ◌<◌, List, length, get_or, refl, sym, ◌∙◌, ap, subst}
+use Rattle.std.proofs.Common.{◌≡◌, ℕ, zero, suc, ◌<◌, true, List, length, get_or, refl, sym, ◌∙◌, ap, subst}
 use Rattle.std.proofs.lemmas.List.{length-map, get_or-map}
 use Rattle.std.proofs.lemmas.Option.{unwrap_or-slice_get}
 use Rattle.song_model.specs.declared.orders.Subtune.{Subtune}
@@ -16,6 +16,7 @@ use Rattle.play_model.specs.Uses.{Uses}
 use Rattle.play_model.specs.Playable.{IsPlayable}
 use Rattle.play_model.proofs.Laws.{whole_lem}
 use Rattle.safe_states.proofs.Laws.{is_played}
+use Rattle.song_facts.specs.declared.facts.Fact.TheVariants.{FirstHolds}
 use Rattle.same_frames.specs.Agreement.{Agrees, SubtunePlaysFor, AddsNoOrderByte}
 use Rattle.same_frames.specs.FrameLaws.{state_after_of}
 use Rattle.same_frames.specs.OrderLaws.{moved_subtune, CanBeMoved}
@@ -24,6 +25,7 @@ use Rattle.packed_form.specs.declared.packed_songs.PackedSong.{PackedSong}
 use Rattle.packing_rules.specs.UsedSets.{UsedSets, AreUsedSets}
 use Rattle.packing_rules.specs.Renumbering.{pattern_number}
 use Rattle.packed_form.specs.Unpacked.{unpacked_song}
+use Rattle.packing_rules.proofs.Laws.{first_stays_first}
 use Rattle.packed_form.specs.StandsFor.{PlaysAlike, StandsFor}
 use Rattle.song_pack.specs.Packed.{new_numbers, packed_subtune, IsPacked}
 use Rattle.song_pack.proofs.UsedParts.{IsMoved}
@@ -31,7 +33,7 @@ use Rattle.song_pack.proofs.Complete.{complete_lem}
 use Rattle.song_pack.proofs.CoveredFacts.{covered}
 use Rattle.song_pack.proofs.CoveredNumbers.{numbers_covered}
 use Rattle.song_pack.proofs.StoredTables.{tables_agree, all_programs_agree}
-use Rattle.song_pack.proofs.StoredInstruments.{instruments_agree, first_is_first, instrument_stored}
+use Rattle.song_pack.proofs.StoredInstruments.{instruments_agree, instrument_stored, instruments_rise}
 use Rattle.song_pack.proofs.StoredPatterns.{pattern_stored, pattern_small, pattern_agrees, pattern_spelled}
 use Rattle.song_pack.proofs.PlayedOrders.{subtunes_unpacked, all_playable, orders_packed}
 use Rattle.song_pack.proofs.Ranges.{keeps_limits}
@@ -67,7 +69,7 @@ module _ (song : Song) (used : UsedSets) (packed : PackedSong) (limits : KeepsLi
   moved = record {
     playable = play;
     agrees = agrees;
-    first = first_is_first song used packed limits are is;
+    first = first_stays_first song used;
     subtunes = all_playable song used packed limits play are is ∙ subtunes_unpacked song used packed limits play are is;
     number = pattern_small song used packed are is;
     pattern = pattern_stored song used packed are is;
@@ -122,11 +124,11 @@ module _ (song : Song) (used : UsedSets) (packed : PackedSong) (limits : KeepsLi
         sym (traces_of_songs_lem o (unpacked_song packed) k i)
         ∙ (frames_same_lem o (new_numbers song used) song k (look_ups_of (unpacked_song packed))
         (subtune_at (unpacked_song packed) k) speed limits play low agrees (subtune_plays k low)).trace
-        (first_is_first song used packed limits are is) i;
+        (first_stays_first song used) i;
     uses = λ i feature uses.
         no_other_case_lem o (new_numbers song used) song k i (look_ups_of (unpacked_song packed))
         (subtune_at (unpacked_song packed) k) speed limits play low agrees (subtune_plays k low)
-        (subtune_adds_none k low) (first_is_first song used packed limits are is) feature
+        (subtune_adds_none k low) (first_stays_first song used) feature
         (subst (λ (x : FrameState). Uses o (look_ups_of (unpacked_song packed)) (subtune_at (unpacked_song packed) k)
         x feature)
         (sym (states_are o (unpacked_song packed) k i)) uses);
@@ -145,6 +147,12 @@ module _ (song : Song) (used : UsedSets) (packed : PackedSong) (limits : KeepsLi
     features = is.features;
     facts = is.facts;
     numbers = is.numbers;
+    order = λ none.
+        instruments_rise song used packed limits are is
+        (λ i is_used more.
+        let has : packed.facts.first_holds ≡ true =
+        (is.facts.each FirstHolds).1 (record { instrument = i; used = is_used; is_such = more }) in
+        cc);
     covers = covered (new_numbers song used) song (unpacked_song packed) moved;
     asks = numbers_covered (new_numbers song used) song (unpacked_song packed) moved;
     plays = plays_alike;

@@ -42,13 +42,12 @@ use Rattle.packing_rules.specs.Renumbering.{first_seen, same_row, speed_rows, po
 use Rattle.packing_rules.specs.Renumbering.{instrument_number, renumbered_row, pattern_text, pattern_texts}
 use Rattle.packing_rules.specs.Renumbering.{pattern_number}
 use Rattle.packed_form.specs.Unpacked.{rows_or_none, unpacked_pattern, unpacked_song}
-use Rattle.packing_rules.proofs.Laws.{place_there, first_seen_has, first_seen_length, first_seen_all}
+use Rattle.packing_rules.proofs.Laws.{place_there, first_seen_has, first_seen_length, first_seen_all, no_instrument}
 use Rattle.pattern_pack.proofs.Laws.{packed_is_spelled, spelled_is_unpacked}
-use Rattle.table_pack.proofs.Laws.{rank_most}
 use Rattle.song_pack.specs.Packed.{new_numbers, IsPacked}
 use Rattle.same_frames.proofs.Laws.{image_of}
 use Rattle.song_pack.proofs.StoredTables.{tables_agree, all_programs_agree}
-use Rattle.song_pack.proofs.StoredInstruments.{instruments_agree}
+use Rattle.song_pack.proofs.StoredInstruments.{number_small, instruments_agree}
 
 -- ---- texts
 
@@ -74,8 +73,8 @@ in_range n i low = (
 
 -- what a row's numbers become
 pub record NumbersFit (song : Song) (used : UsedSets) (row : Row) : Type 0 where
-  pub instrument : row.instrument ≢ 0 → instrument_number used row.instrument ≢ 0
-  pub small : instrument_number used row.instrument ≤ 0x3F
+  pub instrument : row.instrument ≢ 0 → instrument_number song used row.instrument ≢ 0
+  pub small : instrument_number song used row.instrument ≤ 0x3F
   pub param : (name : TableName) → command_table row.command ≡ Some name → IsByte
       (table_number song used name row.param)
 
@@ -83,10 +82,6 @@ pointer_is : (song : Song) (used : UsedSets) (t : Option TableName) (p : ℕ) �
     pointer_number (table_number song used) t p ≡ moved_pointer (new_numbers song used) t p
 pointer_is song used None p = refl
 pointer_is song used (Some name) p = refl
-
-no_instrument : (used : UsedSets) → instrument_number used 0 ≡ 0
-unfolding instrument_number
-no_instrument used = refl
 
 row_fits : (song : Song) (used : UsedSets) (row : Row) → IsRow row → NumbersFit song used row →
     IsRow (renumbered_row song used row)
@@ -104,14 +99,15 @@ row_fits song used row is fits = record {
     param_fits (Some name) e = rw e (fits.param name e)
 
 -- a normal row, behind rows whose last instrument is the new number of this one
-named_normal : (used : UsedSets) (last instrument : ℕ) (n m : ℕ) → n ≡ instrument_number used instrument →
-    m ≡ instrument_number used last → (instrument ≢ 0 → n ≢ 0) →
+named_normal : (song : Song) (used : UsedSets) (last instrument : ℕ) (n m : ℕ) →
+    n ≡ instrument_number song used instrument →
+    m ≡ instrument_number song used last → (instrument ≢ 0 → n ≢ 0) →
     (if (if n == m then 0 else n) == 0 then m else (if n == m then 0 else n))
-    ≡ instrument_number used (if instrument == 0 then last else instrument)
-named_normal used last instrument n m n_is m_is some = elim (cases_eq instrument 0) [
+    ≡ instrument_number song used (if instrument == 0 then last else instrument)
+named_normal song used last instrument n m n_is m_is some = elim (cases_eq instrument 0) [
   | inl none ↦ (
       let e = eq-eqb instrument 0 none in
-      let zero_too : n ≡ 0 = n_is ∙ ap (instrument_number used) none ∙ no_instrument used in
+      let zero_too : n ≡ 0 = n_is ∙ ap (instrument_number song used) none ∙ no_instrument song used in
       rw e (rw zero_too (by_same (0 == m) refl)))
   | inr one ↦ (
       let e = ne_eqb instrument 0 one in
@@ -120,23 +116,25 @@ named_normal used last instrument n m n_is m_is some = elim (cases_eq instrument
 ]
   where
     by_same : (b : Bool) → (0 == m) ≡ b → (if (if 0 == m then 0 else 0) == 0 then m else (if 0 == m then 0 else 0)) ≡
-        instrument_number used last
+        instrument_number song used last
     by_same true e = rw e m_is
     by_same false e = rw e m_is
 
     by_named : (b : Bool) → (n == m) ≡ b → (n == 0) ≡ false →
-        (if (if n == m then 0 else n) == 0 then m else (if n == m then 0 else n)) ≡ instrument_number used instrument
+        (if (if n == m then 0 else n) == 0 then m else (if n == m then 0 else n))
+        ≡ instrument_number song used instrument
     by_named true e f = rw e (sym (eqb-true n m e) ∙ n_is)
     by_named false e f = rw e (rw f n_is)
 
 -- the last instrument of renumbered rows
-last_renumbered : (used : UsedSets) (last instrument n m : ℕ) → n ≡ instrument_number used instrument →
-    m ≡ instrument_number used last → (instrument ≢ 0 → n ≢ 0) →
-    (if n == 0 then m else n) ≡ instrument_number used (if instrument == 0 then last else instrument)
-last_renumbered used last instrument n m n_is m_is some = elim (cases_eq instrument 0) [
+last_renumbered : (song : Song) (used : UsedSets) (last instrument n m : ℕ) →
+    n ≡ instrument_number song used instrument →
+    m ≡ instrument_number song used last → (instrument ≢ 0 → n ≢ 0) →
+    (if n == 0 then m else n) ≡ instrument_number song used (if instrument == 0 then last else instrument)
+last_renumbered song used last instrument n m n_is m_is some = elim (cases_eq instrument 0) [
   | inl none ↦ (
       let e = eq-eqb instrument 0 none in
-      let zero_too : n ≡ 0 = n_is ∙ ap (instrument_number used) none ∙ no_instrument used in
+      let zero_too : n ≡ 0 = n_is ∙ ap (instrument_number song used) none ∙ no_instrument song used in
       rw e (rw zero_too m_is))
   | inr one ↦ (
       let e = ne_eqb instrument 0 one in
@@ -144,24 +142,24 @@ last_renumbered used last instrument n m n_is m_is some = elim (cases_eq instrum
       rw e (rw f n_is))
 ]
 
-rows_for : (song : Song) (used : UsedSets) (last m : ℕ) (rows : List Row) → m ≡ instrument_number used last →
+rows_for : (song : Song) (used : UsedSets) (last m : ℕ) (rows : List Row) → m ≡ instrument_number song used last →
     All (NumbersFit song used) rows →
     AreRowsFor (new_numbers song used) last rows (normal_from m (map (renumbered_row song used) rows))
 rows_for song used last m [] m_is all = tt
 rows_for song used last m (row ∷ rows) m_is all =
     let fits = All-head (NumbersFit song used) row rows all in
-    let n = instrument_number used row.instrument in (
+    let n = instrument_number song used row.instrument in (
       record {
         note = refl;
         instrument = ap (λ (k : ℕ). named_after k (normal_row m (renumbered_row song used row))) (sym m_is)
-            ∙ named_normal used last row.instrument n m refl m_is fits.instrument;
+            ∙ named_normal song used last row.instrument n m refl m_is fits.instrument;
         command = refl;
         param = λ some.
             let e = ne_eqb row.command 0 some in
             rw e (pointer_is song used (command_table row.command) row.param);
       },
       rows_for song used (named_after last row) (last_instrument m (renumbered_row song used row)) rows
-          (last_renumbered used last row.instrument n m refl m_is fits.instrument)
+          (last_renumbered song used last row.instrument n m refl m_is fits.instrument)
           (All-tail (NumbersFit song used) row rows all),
     )
 
@@ -267,15 +265,11 @@ module _ (song : Song) (used : UsedSets) (packed : PackedSong) (are : AreUsedSet
           omega arith
 
       used_row_fits : (row : Row) → IsRow row → IsUsedRow song row → NumbersFit song used row
-      unfolding instrument_number
       used_row_fits row is_row is_used = record {
         instrument = λ some.
             (instruments_agree song used packed limits are is).some row.instrument
             (inr (record { row = row; used = is_used; names = refl; some = some }));
-        small =
-            let most = rank_most used.instruments row.instrument in
-            let limit = is_row.instrument in
-            omega arith;
+        small = number_small song used row.instrument;
         param = λ name command. elim (cases_eq row.param 0) [
           | inl none ↦ (
               let e : table_number song used name row.param ≡ 0 =
@@ -329,7 +323,7 @@ module _ (song : Song) (used : UsedSets) (packed : PackedSong) (are : AreUsedSet
       pattern_agrees n is_used = record {
         each = subst (AreRowsFor (new_numbers song used) 0 (pattern_at song n))
             (sym (pattern_is n is_used ∙ unpacks_to n is_used))
-            (rows_for song used 0 0 (pattern_at song n) (sym (no_instrument used)) (rows_fit n is_used));
+            (rows_for song used 0 0 (pattern_at song n) (sym (no_instrument song used)) (rows_fit n is_used));
       }
 
       spelled_from : (n : ℕ) → IsUsedPattern song n → PackedSpells (text n) (unpacked_pattern (text n))

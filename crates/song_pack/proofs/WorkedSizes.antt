@@ -1,14 +1,14 @@
 -- The size of a packed song, and that of a song of one note, computed.
 use Rattle.std.proofs.Common.{◌≡◌, ℕ, ◌≤◌, [], ◌∷◌, refl, sym, ◌∙◌, arith}
-use Rattle.song_model.specs.LookUp.{table_row, pattern_at}
+use Rattle.song_model.specs.LookUp.{table_row, pattern_at, instrument_at}
 use Rattle.play_model.specs.WorkedSongs.{one_note}
 use Rattle.packed_form.specs.declared.packed_songs.PackedSong.{PackedSong}
 use Rattle.packed_form.specs.PackedText.{packed_text}
 use Rattle.packed_form.specs.Sizes.{packed_song_size}
 use Rattle.packed_form.specs.WorkedUnpacked.{IsPackedNote}
 use Rattle.packing_rules.specs.Segments.{first_row, is_closed, are_equal, first_equal, keeps, stand_in}
-use Rattle.packing_rules.specs.Renumbering.{speed_rows, speed_number, table_number, instrument_number, pattern_text}
-use Rattle.packing_rules.specs.Renumbering.{pattern_texts}
+use Rattle.packing_rules.specs.Renumbering.{speed_rows, speed_number, table_number, instruments_in_order}
+use Rattle.packing_rules.specs.Renumbering.{instrument_number, pattern_text, pattern_texts}
 use Rattle.packing_rules.specs.SongSizes.{data_size, packed_size}
 use Rattle.packing_rules.specs.WorkedSizes.{note_sets}
 use Rattle.song_pack.specs.SizeLaws.{third_pattern, PackedSizesAreWithin, NotesHaveTheirSize}
@@ -22,27 +22,32 @@ note_size packed is =
 
 size_of_both : packed_size one_note (note_sets (0 ∷ 1 ∷ [])) ≡ 42
 unfolding packed_text first_row is_closed are_equal first_equal keeps stand_in speed_rows speed_number table_number
-    instrument_number pattern_text pattern_texts data_size packed_size table_row pattern_at
+    instruments_in_order instrument_number instrument_at pattern_text pattern_texts data_size packed_size table_row
+    pattern_at
 size_of_both = refl
 
 data_of_both : data_size one_note (note_sets (0 ∷ 1 ∷ [])) ≡ 42
 unfolding packed_text first_row is_closed are_equal first_equal keeps stand_in speed_rows speed_number table_number
-    instrument_number pattern_text pattern_texts data_size packed_size table_row pattern_at
+    instruments_in_order instrument_number instrument_at pattern_text pattern_texts data_size packed_size table_row
+    pattern_at
 data_of_both = refl
 
 size_of_one : packed_size one_note (note_sets (0 ∷ [])) ≡ 38
 unfolding packed_text first_row is_closed are_equal first_equal keeps stand_in speed_rows speed_number table_number
-    instrument_number pattern_text pattern_texts data_size packed_size table_row pattern_at
+    instruments_in_order instrument_number instrument_at pattern_text pattern_texts data_size packed_size table_row
+    pattern_at
 size_of_one = refl
 
 data_of_third : data_size third_pattern (note_sets (0 ∷ 1 ∷ 2 ∷ [])) ≡ 46
 unfolding packed_text first_row is_closed are_equal first_equal keeps stand_in speed_rows speed_number table_number
-    instrument_number pattern_text pattern_texts data_size packed_size table_row pattern_at
+    instruments_in_order instrument_number instrument_at pattern_text pattern_texts data_size packed_size table_row
+    pattern_at
 data_of_third = refl
 
 size_of_third : packed_size third_pattern (note_sets (0 ∷ 1 ∷ 2 ∷ [])) ≡ 46
 unfolding packed_text first_row is_closed are_equal first_equal keeps stand_in speed_rows speed_number table_number
-    instrument_number pattern_text pattern_texts data_size packed_size table_row pattern_at
+    instruments_in_order instrument_number instrument_at pattern_text pattern_texts data_size packed_size table_row
+    pattern_at
 size_of_third = refl
 
 alike : (a b : ℕ) → a ≡ 42 → b ≡ 42 → a ≤ b

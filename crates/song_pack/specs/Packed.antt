@@ -1,10 +1,9 @@
 -- The packed song of a song, part by part: what is used, under its new numbers.
-use Rattle.std.specs.Prelude.{◌≡◌, ℕ, Bool, true, nat_lt, if◌then◌else◌, List, [], ◌∷◌, ◌++◌, map, filter}
+use Rattle.std.specs.Prelude.{◌≡◌, ℕ, Bool, true, nat_lt, if◌then◌else◌, List, [], ◌∷◌, ◌++◌, map}
 use Rattle.std.specs.Str.{bytes_eq}
 use Rattle.song_model.specs.declared.orders.Order.{Order}
 use Rattle.song_model.specs.declared.orders.Subtune.{Subtune}
 use Rattle.song_model.specs.declared.instruments.Instrument.{Instrument}
-use Rattle.song_model.specs.declared.instruments.TheConstants.{MOST_INSTRUMENTS}
 use Rattle.song_model.specs.declared.tables.TableRow.{TableRow}
 use Rattle.song_model.specs.declared.tables.TableName.{TableName}
 use Rattle.song_model.specs.declared.tables.TableName.TheVariants.{Wave, Pulse, Filter, Speed}
@@ -17,18 +16,17 @@ use Rattle.same_frames.specs.Maps.{Maps}
 use Rattle.packed_form.specs.declared.packed_songs.PackedSubtune.{PackedSubtune}
 use Rattle.packed_form.specs.declared.packed_songs.PackedInstrument.{PackedInstrument}
 use Rattle.packed_form.specs.declared.packed_songs.PackedSong.{PackedSong}
-use Rattle.packing_rules.specs.Segments.{numbers}
 use Rattle.packing_rules.specs.ProgramMaps.{row_at}
 use Rattle.packing_rules.specs.UsedSets.{UsedSets}
 use Rattle.packing_rules.specs.Renumbering.{first_seen, speed_rows, speed_number, program_rows, wave_programs}
-use Rattle.packing_rules.specs.Renumbering.{pulse_programs, filter_programs, table_number, instrument_number}
-use Rattle.packing_rules.specs.Renumbering.{pattern_number, pattern_texts}
+use Rattle.packing_rules.specs.Renumbering.{pulse_programs, filter_programs, table_number, instruments_in_order}
+use Rattle.packing_rules.specs.Renumbering.{instrument_number, pattern_number, pattern_texts}
 
 -- the new numbers of a song's parts
 abbrev pub new_numbers : Song → UsedSets → Maps
 new_numbers song used = record {
   row = table_number song used;
-  instrument = instrument_number used;
+  instrument = instrument_number song used;
   pattern = pattern_number song used;
 }
 
@@ -46,10 +44,6 @@ packed_subtune pattern subtune = record {
   two = order_bytes pattern subtune.two;
   three = order_bytes pattern subtune.three;
 }
-
--- those of the numbers from 1 to n that pass a test
-unfoldable pub passing_numbers : (ℕ → Bool) → ℕ → List ℕ
-passing_numbers test n = filter test (numbers n)
 
 -- the nine bytes, with the four pointers under new numbers
 abbrev pub packed_instrument : (TableName → ℕ → ℕ) → Instrument → PackedInstrument
@@ -69,8 +63,7 @@ pub record IsPacked (song : Song) (used : UsedSets) (packed : PackedSong) : Type
   pub subtunes : packed.subtunes ≡ map (packed_subtune (pattern_number song used)) (playable_subtunes song)
   pub patterns : packed.patterns ≡ first_seen bytes_eq (pattern_texts song used)
   pub instruments : packed.instruments
-      ≡ map (λ n. packed_instrument (table_number song used) (instrument_at song n))
-      (passing_numbers used.instruments MOST_INSTRUMENTS)
+      ≡ map (λ n. packed_instrument (table_number song used) (instrument_at song n)) (instruments_in_order song used)
   pub wave : packed.wave ≡ program_rows (wave_programs song used)
   pub pulse : packed.pulse ≡ program_rows (pulse_programs song used)
   pub filter : packed.filter ≡ program_rows (filter_programs song used)

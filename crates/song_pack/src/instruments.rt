@@ -1,11 +1,9 @@
 //! The instruments of a packed song.
 
-ghost use Rattle.std.specs.Prelude.{◌≡◌, IfOk, map};
-ghost use Rattle.song_model.specs.declared.instruments.TheConstants.{MOST_INSTRUMENTS};
+ghost use Rattle.std.specs.Prelude.{◌≡◌, ◌≤◌, IfOk, length, map};
 ghost use Rattle.song_model.specs.LookUp.{instrument_at};
-ghost use Rattle.table_pack.specs.Marks.{is_marked};
 ghost use Rattle.song_pack.specs.Numbers.{row_of};
-ghost use Rattle.song_pack.specs.Packed.{passing_numbers, packed_instrument};
+ghost use Rattle.song_pack.specs.Packed.{packed_instrument};
 
 use crate::numbers::RowNumbers;
 use base::NoMemory;
@@ -13,7 +11,7 @@ use packed_form::{PackedInstrument, PackedInstrumentList};
 use song_model::{Bounded, Instrument, Song, TableName};
 use std::alloc::Global;
 
-/// The used instruments of a song, in order, numbered from 1.
+/// The instruments of a song with these numbers, in their order.
 ///
 /// # Errors
 ///
@@ -21,19 +19,16 @@ use std::alloc::Global;
 pub(crate) fn packed_instruments(
     alloc: Global,
     song: &Song,
-    used: &[bool; 64],
+    order: &[u8],
     numbers: &RowNumbers,
 ) -> Result<PackedInstrumentList, NoMemory>
+    requires few { length order.now ≤ 63 }
     ensures { IfOk result (λ list. list ≡
-        map (λ n. packed_instrument (row_of numbers.now) (instrument_at song.now n))
-        (passing_numbers (is_marked used.now) MOST_INSTRUMENTS)) }
+        map (λ n. packed_instrument (row_of numbers.now) (instrument_at song.now n)) order.now) }
 {
     let mut list = Vec::new(alloc);
-    for index in 0..63u8 {
-        let n = index + 1;
-        if used[usize::from(n)] {
-            list.push(packed_instrument(song.instrument(n), numbers))?;
-        }
+    for n in order {
+        list.push(packed_instrument(song.instrument(*n), numbers))?;
     }
     Ok(Bounded::from_vec(list))
 }

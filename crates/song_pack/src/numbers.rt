@@ -1,8 +1,7 @@
 //! The new numbers of a song's rows and instruments.
 
-ghost use Rattle.std.specs.Prelude.{◌≡◌, ℕ, ◌<◌, ◌≤◌, false, slice_index};
-ghost use Rattle.table_pack.specs.Marks.{is_marked};
-ghost use Rattle.packing_rules.specs.Renumbering.{rank, pointer_number};
+ghost use Rattle.std.specs.Prelude.{◌≡◌, ℕ, ◌<◌, ◌≤◌, nat_eq, length, position, slice_index, IfSome};
+ghost use Rattle.packing_rules.specs.Renumbering.{place_in, pointer_number};
 ghost use Rattle.song_pack.specs.Numbers.{foreign_of, row_of};
 
 use song_model::TableName;
@@ -75,20 +74,35 @@ impl RowNumbers {
     }
 }
 
-/// The new numbers of instruments: how many are used up to each.
-pub(crate) fn instrument_numbers(used: &[bool; 64]) -> [u8; 64]
-    requires { is_marked used.now 0 ≡ false }
-    ensures numbers { (n : ℕ) → n < 64 → slice_index result n ≡ rank (is_marked used.now) n }
+/// The place of a number among others, from 1 on; 0 where it isn't there.
+fn place_in(order: &[u8], n: u8) -> u8
+    requires few { length order.now ≤ 63 }
+    ensures place { result ≡ place_in order.now n }
+    ensures small { result ≤ 63 }
+{
+    match found_in(order, n) {
+        Some(place) => place as u8 + 1,
+        None => 0,
+    }
+}
+
+/// Where a number stands first among others, from 0 on.
+fn found_in(order: &[u8], n: u8) -> Option<usize>
+    ensures place { result ≡ position (nat_eq n) order.now }
+    ensures inside { IfSome result (λ place. place < length order.now) }
+{
+    order.iter().position(|other| n == *other)
+}
+
+/// The new numbers of instruments, by the old ones: the places where they stand in their order, from 1 on.
+pub(crate) fn instrument_numbers(order: &[u8]) -> [u8; 64]
+    requires few { length order.now ≤ 63 }
+    ensures numbers { (n : ℕ) → n < 64 → slice_index result n ≡ place_in order.now n }
     ensures small { (n : ℕ) → slice_index result n ≤ 63 }
 {
     let mut to = [0; 64];
-    let mut count = 0;
-    for index in 0..63 {
-        let n = index + 1;
-        if used[n] {
-            count += 1;
-        }
-        to[n] = count;
+    for n in 0..64u8 {
+        to[usize::from(n)] = place_in(order, n);
     }
     to
 }

@@ -10,6 +10,7 @@ ghost use Rattle.song_pack.specs.Packed.{IsPacked};
 ghost use Rattle.song_pack.specs.Answers.{HasPackedSize, AreShort, IsCause};
 
 use crate::PackFault;
+use crate::instrument_order::instruments_in_order;
 use crate::instruments::packed_instruments;
 use crate::numbers::instrument_numbers;
 use crate::orders::packed_subtunes;
@@ -44,8 +45,9 @@ pub fn pack_song(alloc: Global, song: &Song, usage: &UsedParts) -> Result<Packed
         IfErr result (IsCause song.now used) }
 {
     let tables = packed_tables(alloc, song, usage)?;
-    let instruments = packed_instruments(alloc, song, &usage.instruments, &tables.numbers)?;
-    let numbers = instrument_numbers(&usage.instruments);
+    let order = instruments_in_order(alloc, song, usage)?;
+    let instruments = packed_instruments(alloc, song, &order, &tables.numbers)?;
+    let numbers = instrument_numbers(&order);
     let patterns = packed_patterns(alloc, song, &usage.patterns, &tables.numbers, &numbers)?;
     let subtunes = packed_subtunes(alloc, song, &patterns.to)?;
     Ok(PackedSong {

@@ -1,14 +1,26 @@
-use Rattle.std.proofs.Common.{refl}
+use Rattle.std.proofs.Common.{refl, ◌∙◌}
 use Rattle.play_model.proofs.Laws.{whole_lem}
 use Rattle.asked_numbers.proofs.Laws.{ranges_lie_in_the_table}
 use Rattle.song_pack.specs.Answers.{IsCause}
 use Rattle.song_pack.proofs.HandedOn.{err_caused}
 use Rattle.song_pack.proofs.Answered.{stands, exact, size, short, cause}
+use Rattle.song_pack.proofs.MadeSongs.{order_few, placed, numbered}
 use Rattle.song_pack.proofs.packing.pack_song.Goals as goal
 
 pub packed_patterns-requires-clause-stored : goal.packed_patterns-requires-clause-stored
 packed_patterns-requires-clause-stored c p marked =
     (whole_lem c.args.song.now c.requires.playable).pattern p ((c.requires.parts.patterns.each p).0 marked)
+
+pub packed_instruments-requires : goal.packed_instruments-requires
+packed_instruments-requires c = record {
+  few = order_few c.args.song.now c.args.usage.now c.deref.result.now (c.deref.ensures.value ∙ c.in_ok-order.ensures);
+}
+
+pub instrument_numbers-numbers-requires : goal.instrument_numbers-numbers-requires
+instrument_numbers-numbers-requires c = record {
+  few = order_few c.args.song.now c.args.usage.now c.deref-2.result.now
+      (c.deref-2.ensures.value ∙ c.in_ok-order.ensures);
+}
 
 pub returns-in_err-patterns-clause-fault : goal.returns-in_err-patterns-clause-fault
 returns-in_err-patterns-clause-fault c used are limits =
@@ -16,8 +28,10 @@ returns-in_err-patterns-clause-fault c used are limits =
     c.from_residual-in_err-patterns.ensures.1
     (cause c.args.song.now c.args.usage.now c.in_ok-tables.tables c.instrument_numbers-numbers.result
     c.requires.playable
-    c.requires.parts c.in_ok-tables.ensures c.instrument_numbers-numbers.ensures.numbers c.in_err-patterns.field-0.0
-    c.in_err-patterns.ensures.fault used are limits)
+    c.requires.parts c.in_ok-tables.ensures
+    (numbered c.args.song.now c.args.usage.now c.deref-2.result.now c.instrument_numbers-numbers.result
+    (c.deref-2.ensures.value ∙ c.in_ok-order.ensures) c.instrument_numbers-numbers.ensures.numbers)
+    c.in_err-patterns.field-0.0 c.in_err-patterns.ensures.fault used are limits)
 
 pub invariant_of-result-clause-numbers_within : goal.invariant_of-result-clause-numbers_within
 invariant_of-result-clause-numbers_within c =
@@ -27,13 +41,17 @@ pub returns-clause-stands : goal.returns-clause-stands
 returns-clause-stands c =
     stands c.args.song.now c.args.usage.now c.in_ok-tables.tables c.instrument_numbers-numbers.result
     c.requires.playable
-    c.requires.parts c.in_ok-tables.ensures c.instrument_numbers-numbers.ensures.numbers c.in_ok-patterns.patterns.to _
+    c.requires.parts c.in_ok-tables.ensures
+    (numbered c.args.song.now c.args.usage.now c.deref-2.result.now c.instrument_numbers-numbers.result
+    (c.deref-2.ensures.value ∙ c.in_ok-order.ensures) c.instrument_numbers-numbers.ensures.numbers)
+    c.in_ok-patterns.patterns.to _
     (record {
       wave = refl;
       pulse = refl;
       filter = refl;
       speed = refl;
-      instruments = c.in_ok-instruments.ensures;
+      instruments = placed c.args.song.now c.args.usage.now c.in_ok-tables.tables c.deref.result.now _
+          (c.deref.ensures.value ∙ c.in_ok-order.ensures) c.in_ok-instruments.ensures;
       patterns = c.in_ok-patterns.ensures.patterns;
       subtunes = c.in_ok-subtunes.ensures;
       features = refl;
@@ -44,13 +62,17 @@ returns-clause-stands c =
 pub returns-clause-exact : goal.returns-clause-exact
 returns-clause-exact c =
     exact c.args.song.now c.args.usage.now c.in_ok-tables.tables c.instrument_numbers-numbers.result c.requires.playable
-    c.requires.parts c.in_ok-tables.ensures c.instrument_numbers-numbers.ensures.numbers c.in_ok-patterns.patterns.to _
+    c.requires.parts c.in_ok-tables.ensures
+    (numbered c.args.song.now c.args.usage.now c.deref-2.result.now c.instrument_numbers-numbers.result
+    (c.deref-2.ensures.value ∙ c.in_ok-order.ensures) c.instrument_numbers-numbers.ensures.numbers)
+    c.in_ok-patterns.patterns.to _
     (record {
       wave = refl;
       pulse = refl;
       filter = refl;
       speed = refl;
-      instruments = c.in_ok-instruments.ensures;
+      instruments = placed c.args.song.now c.args.usage.now c.in_ok-tables.tables c.deref.result.now _
+          (c.deref.ensures.value ∙ c.in_ok-order.ensures) c.in_ok-instruments.ensures;
       patterns = c.in_ok-patterns.ensures.patterns;
       subtunes = c.in_ok-subtunes.ensures;
       features = refl;
@@ -61,13 +83,17 @@ returns-clause-exact c =
 pub returns-clause-size : goal.returns-clause-size
 returns-clause-size c =
     size c.args.song.now c.args.usage.now c.in_ok-tables.tables c.instrument_numbers-numbers.result c.requires.playable
-    c.requires.parts c.in_ok-tables.ensures c.instrument_numbers-numbers.ensures.numbers c.in_ok-patterns.patterns.to _
+    c.requires.parts c.in_ok-tables.ensures
+    (numbered c.args.song.now c.args.usage.now c.deref-2.result.now c.instrument_numbers-numbers.result
+    (c.deref-2.ensures.value ∙ c.in_ok-order.ensures) c.instrument_numbers-numbers.ensures.numbers)
+    c.in_ok-patterns.patterns.to _
     (record {
       wave = refl;
       pulse = refl;
       filter = refl;
       speed = refl;
-      instruments = c.in_ok-instruments.ensures;
+      instruments = placed c.args.song.now c.args.usage.now c.in_ok-tables.tables c.deref.result.now _
+          (c.deref.ensures.value ∙ c.in_ok-order.ensures) c.in_ok-instruments.ensures;
       patterns = c.in_ok-patterns.ensures.patterns;
       subtunes = c.in_ok-subtunes.ensures;
       features = refl;
@@ -78,5 +104,7 @@ returns-clause-size c =
 pub returns-clause-short : goal.returns-clause-short
 returns-clause-short c =
     short c.args.song.now c.args.usage.now c.in_ok-tables.tables c.instrument_numbers-numbers.result c.requires.playable
-    c.requires.parts c.in_ok-tables.ensures c.instrument_numbers-numbers.ensures.numbers c.in_ok-patterns.patterns.to
-    c.in_ok-patterns.patterns.list c.in_ok-patterns.ensures.patterns
+    c.requires.parts c.in_ok-tables.ensures
+    (numbered c.args.song.now c.args.usage.now c.deref-2.result.now c.instrument_numbers-numbers.result
+    (c.deref-2.ensures.value ∙ c.in_ok-order.ensures) c.instrument_numbers-numbers.ensures.numbers)
+    c.in_ok-patterns.patterns.to c.in_ok-patterns.patterns.list c.in_ok-patterns.ensures.patterns
