@@ -59,10 +59,10 @@ bits_without test set n is off =
     same m = omega arith
 
 -- the bit of a condition fits in a set
-pub fits : (bit : ℕ) → bit < 60 → 1 * 2 ^ bit % 2 ^ 128 ≡ 2 ^ bit
+pub fits : (bit : ℕ) → bit < 61 → 1 * 2 ^ bit % 2 ^ 128 ≡ 2 ^ bit
 fits bit few =
     eqb-true (1 * 2 ^ bit % 2 ^ 128) (2 ^ bit)
-    (agree_below_at (λ n. nat_eq (1 * 2 ^ n % 2 ^ 128) (2 ^ n)) (λ n. true) 60 bit refl few)
+    (agree_below_at (λ n. nat_eq (1 * 2 ^ n % 2 ^ 128) (2 ^ n)) (λ n. true) 61 bit refl few)
 
 -- ---- they are few
 

@@ -43,6 +43,7 @@ sets_are_worked = record {
   subtunes = refl;
   voice_two = refl;
   voice_three = refl;
+  first_holds = refl;
   effects = refl;
   pulse = refl;
   twice = refl;

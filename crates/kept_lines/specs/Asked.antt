@@ -13,6 +13,7 @@ use Rattle.player_memory.specs.declared.conditions.TheConstants.{NO_HARD_RESTART
 use Rattle.player_memory.specs.declared.conditions.TheConstants.{NOTE_VIBRATO, VIBRATO_DELAY, NOTE_PULSE, NOTE_FILTER}
 use Rattle.player_memory.specs.declared.conditions.TheConstants.{VOICE_TEMPO, COMMON_TEMPO, FUNK_TURNS, FUNK_CHOICE}
 use Rattle.player_memory.specs.declared.conditions.TheConstants.{OWN_TIMER, OWN_WAVE, SUBTUNES, VOICE_TWO, VOICE_THREE}
+use Rattle.player_memory.specs.declared.conditions.TheConstants.{FIRST_HOLDS}
 
 -- whether the bit of a condition is set
 abbrev pub is_in : ℕ → ℕ → Bool
@@ -46,6 +47,7 @@ asks_fact facts condition =
     else if condition == SUBTUNES then facts.subtunes
     else if condition == VOICE_TWO then facts.voice_two
     else if condition == VOICE_THREE then facts.voice_three
+    else if condition == FIRST_HOLDS then facts.first_holds
     else false
 
 -- those below 24 are the features, by their bits

@@ -5,9 +5,10 @@ ghost use Rattle.kept_lines.specs.Asked.{is_in, asks_fact, asks, asked, asked_by
 
 use packed_form::PackedSong;
 use player_memory::conditions::{
-    COMMON_TEMPO, FIRST_MASK, FUNK_CHOICE, FUNK_TURNS, GATE_NOTE, LEGATO, NO_HARD_RESTART,
-    NOTE_FILTER, NOTE_PULSE, NOTE_VIBRATO, OWN_TIMER, OWN_WAVE, ROW_COMMAND, ROW_ONCE, ROW_SLIDE,
-    ROW_TONE, SUBTUNES, VIBRATO_DELAY, VOICE_TEMPO, VOICE_THREE, VOICE_TWO, WAVE_DELAY,
+    COMMON_TEMPO, FIRST_HOLDS, FIRST_MASK, FUNK_CHOICE, FUNK_TURNS, GATE_NOTE, LEGATO,
+    NO_HARD_RESTART, NOTE_FILTER, NOTE_PULSE, NOTE_VIBRATO, OWN_TIMER, OWN_WAVE, ROW_COMMAND,
+    ROW_ONCE, ROW_SLIDE, ROW_TONE, SUBTUNES, VIBRATO_DELAY, VOICE_TEMPO, VOICE_THREE, VOICE_TWO,
+    WAVE_DELAY,
 };
 use scope_lines::Conditions;
 use song_facts::Facts;
@@ -47,6 +48,7 @@ fn asks_fact(facts: &Facts, condition: u8) -> bool
         SUBTUNES => facts.subtunes,
         VOICE_TWO => facts.voice_two,
         VOICE_THREE => facts.voice_three,
+        FIRST_HOLDS => facts.first_holds,
         _ => false,
     }
 }

@@ -8,7 +8,8 @@ use Rattle.std.proofs.lemmas.Bool.{cases_lt, both_ways, ne_eqb, le-ltb}
 use Rattle.packed_form.specs.declared.packed_songs.PackedSubtune.{PackedSubtune}
 use Rattle.packed_form.specs.declared.packed_songs.PackedSong.{PackedSong}
 use Rattle.packed_form.specs.Sizes.{list_size, subtune_size, packed_song_size}
-use Rattle.player_memory.specs.SongLists.{is_read, unread_size, unlisted_size, shared_size}
+use Rattle.player_memory.specs.SongLists.{is_read, unread_size, unlisted_size, shared_size, has_gate_from}
+use Rattle.player_memory.specs.SongLists.{has_envelope_from}
 
 -- only the nine fields are read
 pub read_below : (packed : PackedSong) (field : ℕ) → is_read packed field ≡ true → field < 9
@@ -34,7 +35,7 @@ unread_few packed =
     let filter = at_most packed.facts.note_filter in
     let vibrato = at_most packed.facts.note_vibrato in
     let delay = at_most packed.facts.vibrato_delay in
-    let timer = at_most (packed.facts.own_timer || packed.facts.legato || packed.facts.no_hard_restart) in
+    let timer = at_most (packed.facts.own_timer || packed.facts.first_holds) in
     let wave = at_most packed.facts.own_wave in
     omega arith
   where
@@ -71,13 +72,19 @@ left_out_within packed =
     within subtunes orders texts instruments wave pulse filter speed unread unlisted few none large =
         omega (arith, few, none, large)
 
--- at most two bytes stand for all instruments
-pub shared_few : (packed : PackedSong) → shared_size packed ≤ 2
+-- at most four bytes stand for all instruments
+pub shared_few : (packed : PackedSong) → shared_size packed ≤ 4
 shared_few packed =
     let timer = at_most packed.facts.own_timer in
     let wave = at_most packed.facts.own_wave in
+    let gates = one_at_most (has_gate_from packed) in
+    let envelopes = one_at_most (has_envelope_from packed) in
     omega arith
   where
     at_most : (z : Bool) → (if z then 0 else 1) ≤ 1
     at_most true = omega arith
     at_most false = omega arith
+
+    one_at_most : (z : Bool) → (if z then 1 else 0) ≤ 1
+    one_at_most true = omega arith
+    one_at_most false = omega arith

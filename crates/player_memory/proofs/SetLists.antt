@@ -9,7 +9,8 @@ use Rattle.scopes.specs.Desk.{Layout}
 use Rattle.player_memory.specs.Rooms.{IsElsewhere}
 use Rattle.player_memory.specs.Playing.{place_in}
 use Rattle.player_memory.specs.SongLists.{SongList, FrequencyLows, FrequencyHighs, Lefts, Rights, Periods, Instruments}
-use Rattle.player_memory.specs.SongLists.{OneTimer, OneWave, OrderLows, OrderHighs, PatternLows, PatternHighs}
+use Rattle.player_memory.specs.SongLists.{OneTimer, OneWave, GateFrom, EnvelopeFrom, OrderLows, OrderHighs}
+use Rattle.player_memory.specs.SongLists.{PatternLows, PatternHighs}
 use Rattle.player_memory.specs.SongLists.{OrderBytes, PatternBytes}
 use Rattle.player_memory.specs.SongLists.{first_number, list_length, list_byte, list_label, IsSongList, HasNumber}
 use Rattle.player_memory.specs.SongLists.{slide_rows, ListsStand}
@@ -63,13 +64,15 @@ module _ (layout : Layout) (speeds : List TableRow) (at : ℕ → ℕ)
   found (Instruments (suc (suc (suc (suc zero))))) is = at_number 15 (omega arith)
   found (Instruments (suc (suc (suc (suc (suc zero)))))) is = at_number 16 (omega arith)
   found (Instruments (suc (suc (suc (suc (suc (suc zero))))))) is = at_number 17 (omega arith)
-  found (Instruments (suc (suc (suc (suc (suc (suc (suc zero)))))))) is = at_number 18 (omega arith)
+  found (Instruments (suc (suc (suc (suc (suc (suc (suc zero)))))))) is = absurd (let off : false ≡ true = is in cc)
   found (Instruments (suc (suc (suc (suc (suc (suc (suc (suc zero))))))))) is = at_number 19 (omega arith)
   found (Instruments (suc (suc (suc (suc (suc (suc (suc (suc (suc more)))))))))) is =
       let few = read_below packed (suc (suc (suc (suc (suc (suc (suc (suc (suc more))))))))) is in
       absurd (omega (arith, few))
   found OneTimer is = at_number 20 (omega arith)
   found OneWave is = absurd (let on : true ≡ false = is in cc)
+  found GateFrom is = absurd (let off : false ≡ true = is in cc)
+  found EnvelopeFrom is = at_number 18 (omega arith)
   found OrderLows is = at_number 21 (omega arith)
   found OrderHighs is = at_number 22 (omega arith)
   found PatternLows is = at_number 23 (omega arith)

@@ -1,5 +1,5 @@
 -- Conditions of features and of facts, and layouts that keep the lines of facts or don't.
-use Rattle.std.proofs.Common.{◌≡◌, true, [], ◌∷◌, inl, inr, refl, arith}
+use Rattle.std.proofs.Common.{◌≡◌, true, [], ◌∷◌, inl, refl, arith}
 use Rattle.song_model.specs.LookUp.{pattern_at}
 use Rattle.play_model.specs.WorkedSongs.{row, one_note}
 use Rattle.scopes.specs.Desk.{Layout}
@@ -8,7 +8,7 @@ use Rattle.song_facts.specs.declared.facts.Fact.TheVariants.{NoHardRestart}
 use Rattle.song_facts.specs.declared.facts.Fact.TheVariants.{WaveDelay, GateNote, NoteVibrato, VibratoDelay, NotePulse}
 use Rattle.song_facts.specs.declared.facts.Fact.TheVariants.{NoteFilter}
 use Rattle.song_facts.specs.declared.facts.Fact.TheVariants.{VoiceTempo, CommonTempo, FunkTurns, FunkChoice}
-use Rattle.song_facts.specs.declared.facts.Fact.TheVariants.{OwnTimer, OwnWave, Subtunes, VoiceTwo, VoiceThree}
+use Rattle.song_facts.specs.declared.facts.Fact.TheVariants.{OwnTimer, OwnWave, Subtunes, VoiceTwo, VoiceThree, FirstHolds}
 use Rattle.song_facts.specs.Facts.{HasFact, no_facts}
 use Rattle.player_memory.specs.declared.conditions.TheConstants.{GATE_NOTE}
 use Rattle.player_memory.specs.FactLines.{KeepsMarked, KeepsMarkedAlone}
@@ -65,6 +65,7 @@ conditions_are_facts OwnWave = refl
 conditions_are_facts Subtunes = refl
 conditions_are_facts VoiceTwo = refl
 conditions_are_facts VoiceThree = refl
+conditions_are_facts FirstHolds = refl
 
 none_kept : (layout : Layout) → KeepsMarked layout no_facts
 none_kept layout RowTone on = absurd cc
@@ -88,6 +89,7 @@ none_kept layout OwnWave on = absurd cc
 none_kept layout Subtunes on = absurd cc
 none_kept layout VoiceTwo on = absurd cc
 none_kept layout VoiceThree on = absurd cc
+none_kept layout FirstHolds on = absurd cc
 
 gate_kept : (layout : Layout) → layout.holds GATE_NOTE ≡ true →
     KeepsMarked layout (record no_facts { gate_note = true })
@@ -112,6 +114,7 @@ gate_kept layout holds OwnWave on = absurd cc
 gate_kept layout holds Subtunes on = absurd cc
 gate_kept layout holds VoiceTwo on = absurd cc
 gate_kept layout holds VoiceThree on = absurd cc
+gate_kept layout holds FirstHolds on = absurd cc
 
 -- where at most the condition of a keyoff holds
 none_alone : (layout : Layout) → KeepsMarkedAlone (with_holding layout []) (record no_facts { gate_note = true })
@@ -136,6 +139,7 @@ none_alone layout OwnWave on = absurd cc
 none_alone layout Subtunes on = absurd cc
 none_alone layout VoiceTwo on = absurd cc
 none_alone layout VoiceThree on = absurd cc
+none_alone layout FirstHolds on = absurd cc
 
 gate_alone : (layout : Layout) →
     KeepsMarkedAlone (with_holding layout (GATE_NOTE ∷ [])) (record no_facts { gate_note = true })
@@ -160,6 +164,7 @@ gate_alone layout OwnWave on = absurd cc
 gate_alone layout Subtunes on = absurd cc
 gate_alone layout VoiceTwo on = absurd cc
 gate_alone layout VoiceThree on = absurd cc
+gate_alone layout FirstHolds on = absurd cc
 
 -- the song of one note has a keyoff
 key_off : HasFact one_note GateNote
@@ -204,10 +209,7 @@ fact_lines_are_worked layout = record {
   subtunes_more = λ alone. (let on = alone Subtunes refl in absurd cc);
   two_more = λ alone. (let on = alone VoiceTwo refl in absurd cc);
   three_more = λ alone. (let on = alone VoiceThree refl in absurd cc);
-  held_gate = λ on. inl refl;
-  held_envelope = λ on. inr refl;
-  not_held = λ on. absurd cc;
-  held_more = λ alone. elim (alone refl) [ inl gate ↦ absurd cc | inr envelope ↦ absurd cc ];
+  first_more = λ alone. (let on = alone FirstHolds refl in absurd cc);
   song = λ keeps. (let on = keeps GateNote key_off in absurd cc);
   free = record {
     tone = λ on. absurd cc;

@@ -25,7 +25,7 @@ use Rattle.player_memory.specs.Fetching.{SongStands, AtEntry, InRun, InLastRun, 
 use Rattle.player_memory.specs.Fetching.{EntriesStand}
 use Rattle.player_memory.specs.Starting.{Begins, VoiceBegins, common_with}
 use Rattle.player_memory.specs.SongLists.{SongList, FrequencyLows, FrequencyHighs, Lefts, Rights, Periods, Instruments}
-use Rattle.player_memory.specs.SongLists.{OneTimer, OrderLows, OrderHighs, PatternLows, PatternHighs}
+use Rattle.player_memory.specs.SongLists.{OneTimer, EnvelopeFrom, OrderLows, OrderHighs, PatternLows, PatternHighs}
 use Rattle.player_memory.specs.SongLists.{OrderBytes, PatternBytes}
 use Rattle.player_memory.specs.SongLists.{pattern_bytes, first_number, list_length, list_byte, list_label, IsSongList}
 use Rattle.player_memory.specs.Holds.{look_of, order_in, order_label, VoiceHolds, AreNext, PatternStands}
@@ -144,6 +144,7 @@ lists_are_in_memory = record {
   first_ad = refuses (put song_memory 0x1126 0) (Instruments 0) 1 refl refl refl;
   last_first_wave = refuses (put song_memory 0x1137 0) (Instruments 8) 2 refl refl refl;
   one_timer = refuses (put song_memory 0x1160 0x82) OneTimer 0 refl refl refl;
+  envelope_from = refuses (put song_memory 0x1162 1) EnvelopeFrom 0 refl refl refl;
   first_order_low = refuses (put song_memory 0x1138 0) OrderLows 0 refl refl refl;
   last_order_high = refuses (put song_memory 0x1143 0) OrderHighs 5 refl refl refl;
   first_pattern_low = refuses (put song_memory 0x1144 0) PatternLows 0 tt refl refl;
@@ -212,6 +213,8 @@ laid = record {
       omega (arith, place));
   timer = omega arith;
   wave = omega arith;
+  gates = omega arith;
+  envelopes = omega arith;
   orders = orders;
   patterns = patterns;
 }
@@ -248,6 +251,8 @@ layouts_are_worked = record {
   over = λ is. (let l = is.orders 5 (omega arith) in omega (arith, l));
   timer_over = λ is. (let l = is.timer in omega (arith, l));
   wave_over = λ is. (let l = is.wave in omega (arith, l));
+  gates_over = λ is. (let l = is.gates in omega (arith, l));
+  envelopes_over = λ is. (let l = is.envelopes in omega (arith, l));
   last = last_place;
   past = λ stands. (let l = stands.to in omega (arith, l));
   none = λ stands. (let l = stands.from in omega (arith, l));

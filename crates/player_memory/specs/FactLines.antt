@@ -1,6 +1,6 @@
 -- Which condition keeps the lines of each fact of a song, when a layout keeps those of a song's facts, and which voices
 -- are run then. This is the project's own player.
-use Rattle.std.specs.Prelude.{◌≡◌, ◌⊎◌, ℕ, ◌||◌, ◌==◌, Bool, true, if◌then◌else◌}
+use Rattle.std.specs.Prelude.{◌≡◌, ℕ, ◌||◌, ◌==◌, Bool, true, if◌then◌else◌}
 use Rattle.song_model.specs.declared.songs.Song.{Song}
 use Rattle.song_facts.specs.declared.facts.Fact.{Fact}
 use Rattle.song_facts.specs.declared.facts.Fact.TheVariants.{RowTone, RowSlide, RowOnce, FirstMask, Legato}
@@ -8,7 +8,7 @@ use Rattle.song_facts.specs.declared.facts.Fact.TheVariants.{NoHardRestart}
 use Rattle.song_facts.specs.declared.facts.Fact.TheVariants.{WaveDelay, GateNote, NoteVibrato, VibratoDelay, NotePulse}
 use Rattle.song_facts.specs.declared.facts.Fact.TheVariants.{NoteFilter}
 use Rattle.song_facts.specs.declared.facts.Fact.TheVariants.{VoiceTempo, CommonTempo, FunkTurns, FunkChoice}
-use Rattle.song_facts.specs.declared.facts.Fact.TheVariants.{OwnTimer, OwnWave, Subtunes, VoiceTwo, VoiceThree}
+use Rattle.song_facts.specs.declared.facts.Fact.TheVariants.{OwnTimer, OwnWave, Subtunes, VoiceTwo, VoiceThree, FirstHolds}
 use Rattle.song_facts.specs.declared.facts.Facts.{Facts}
 use Rattle.song_facts.specs.Facts.{HasFact, is_among}
 use Rattle.scopes.specs.Desk.{Layout}
@@ -17,6 +17,7 @@ use Rattle.player_memory.specs.declared.conditions.TheConstants.{NO_HARD_RESTART
 use Rattle.player_memory.specs.declared.conditions.TheConstants.{NOTE_VIBRATO, VIBRATO_DELAY, NOTE_PULSE, NOTE_FILTER}
 use Rattle.player_memory.specs.declared.conditions.TheConstants.{VOICE_TEMPO, COMMON_TEMPO, FUNK_TURNS, FUNK_CHOICE}
 use Rattle.player_memory.specs.declared.conditions.TheConstants.{OWN_TIMER, OWN_WAVE, SUBTUNES, VOICE_TWO, VOICE_THREE}
+use Rattle.player_memory.specs.declared.conditions.TheConstants.{FIRST_HOLDS}
 use Rattle.player_memory.specs.declared.conditions.TheConstants.{SPECIAL_ROW, HELD_NOTE, WAVE_COMMAND}
 use Rattle.player_memory.specs.declared.conditions.TheConstants.{FILTER_TABLE, SET_FILTER_CONTROL, SET_CUTOFF}
 use Rattle.player_memory.specs.declared.conditions.TheConstants.{FILTER_USED, FUNK_TEMPO}
@@ -44,6 +45,7 @@ fact_condition OwnWave = OWN_WAVE
 fact_condition Subtunes = SUBTUNES
 fact_condition VoiceTwo = VOICE_TWO
 fact_condition VoiceThree = VOICE_THREE
+fact_condition FirstHolds = FIRST_HOLDS
 
 -- a layout keeps the lines of each of these facts
 abbrev pub KeepsMarked : Layout → Facts → Type 0
@@ -71,12 +73,6 @@ pub record KeepsShared (layout : Layout) : Type 0 where
   pub filter : layout.holds FILTER_TABLE ≡ true → layout.holds FILTER_USED ≡ true
   pub control : layout.holds SET_FILTER_CONTROL ≡ true → layout.holds FILTER_USED ≡ true
   pub cutoff : layout.holds SET_CUTOFF ≡ true → layout.holds FILTER_USED ≡ true
-
--- the lines that find out whether an instrument leaves the gate or the envelope as it is before a note are kept only
--- with those for one that does
-abbrev pub HoldsAlone : Layout → Type 0
-HoldsAlone layout =
-    layout.holds HELD_NOTE ≡ true → (layout.holds LEGATO ≡ true) ⊎ (layout.holds NO_HARD_RESTART ≡ true)
 
 -- whether a voice, counted from 0, is run: the second or the third isn't where its channel has nothing to play, unless the
 -- voices take turns between two tempos

@@ -19,6 +19,7 @@ use Rattle.player_memory.specs.declared.labels.TheConstants.{NEXT_FREQUENCY_LOWS
 use Rattle.player_memory.specs.declared.labels.TheConstants.{NEXT_WAVE_LEFTS, WAVE_RIGHTS, NEXT_WAVE_RIGHTS}
 use Rattle.player_memory.specs.declared.labels.TheConstants.{PULSE_LEFTS, NEXT_PULSE_LEFTS, FILTER_LEFTS}
 use Rattle.player_memory.specs.declared.labels.TheConstants.{NEXT_FILTER_LEFTS, ONE_TIMER, ONE_WAVE}
+use Rattle.player_memory.specs.declared.labels.TheConstants.{GATE_FROM, ENVELOPE_FROM}
 use Rattle.player_memory.specs.FactLines.{is_run}
 use Rattle.player_memory.specs.Rooms.{IsRoom, IsElsewhere, MayUse}
 use Rattle.player_memory.specs.Playing.{own_at, shared_at, place_in, IsPlaying}
@@ -79,7 +80,7 @@ pub record PatternStands (layout : Layout) (packed : PackedSong) (number : ℕ) 
   pub reads_before : layout.may_read (place_before layout number) ≡ true
 
 -- the variables, the slides and the pointer have their room, which the code may use; the bytes of the lists stand from
--- $0800 on, and those of a gateoff timer and of a first waveform for all instruments within memory
+-- $0800 on, and those that stand alone for all instruments within memory
 pub record IsPlayerLayout (layout : Layout) (packed : PackedSong) : Type 0 where
   pub room : IsRoom layout (slide_rows packed)
   pub uses : MayUse layout (slide_rows packed)
@@ -88,6 +89,8 @@ pub record IsPlayerLayout (layout : Layout) (packed : PackedSong) : Type 0 where
       0x0800 ≤ place_in layout (list_label list) number
   pub timer : layout.address ONE_TIMER < MEMORY_SIZE
   pub wave : layout.address ONE_WAVE < MEMORY_SIZE
+  pub gates : layout.address GATE_FROM < MEMORY_SIZE
+  pub envelopes : layout.address ENVELOPE_FROM < MEMORY_SIZE
   pub orders : (number : ℕ) → number < 3 * length packed.subtunes → layout.address (ORDERS + number) < MEMORY_SIZE
   pub patterns : (number : ℕ) → number < length packed.patterns → PatternStands layout packed number
 

@@ -1,7 +1,7 @@
 -- The lists of a packed song as the player reads them: what each of them has, under which label, and where their bytes
 -- stand. This is the project's own player.
 use Rattle.std.specs.Prelude.{◌≡◌, ℕ, ◌+◌, ◌-◌, ◌*◌, ◌/◌, ◌%◌, ◌<◌, ◌≤◌, ◌==◌}
-use Rattle.std.specs.Prelude.{Bool, true, false, if◌then◌else◌, ◌||◌, nat_lt}
+use Rattle.std.specs.Prelude.{Bool, true, false, if◌then◌else◌, not, ◌&&◌, ◌||◌, nat_lt}
 use Rattle.std.specs.Prelude.{List, [], length, slice_index, slice_index_or, sum_by}
 use Rattle.std.specs.List.{range_with_len}
 use Rattle.song_model.specs.declared.instruments.Instrument.{Instrument}
@@ -11,9 +11,11 @@ use Rattle.song_model.specs.declared.tables.TableName.TheVariants.{Wave, Pulse, 
 use Rattle.song_model.specs.LookUp.{table_of, table_row, instrument_at}
 use Rattle.play_model.specs.Freq.{freq}
 use Rattle.song_facts.specs.Facts.{timer_of}
+use Rattle.song_facts.specs.declared.hold.Hold.TheVariants.{Envelope, Gate}
 use Rattle.packed_form.specs.declared.packed_songs.PackedSubtune.{PackedSubtune}
 use Rattle.packed_form.specs.declared.packed_songs.PackedSong.{PackedSong}
 use Rattle.packed_form.specs.Unpacked.{unpacked_song}
+use Rattle.packed_form.specs.Holders.{first_holder}
 use Rattle.packed_form.specs.Sizes.{packed_song_size}
 use Rattle.scopes.specs.Desk.{Layout}
 use Rattle.player_memory.specs.declared.conditions.TheConstants.{NOTE_DEPENDENT}
@@ -22,6 +24,7 @@ use Rattle.player_memory.specs.declared.labels.TheConstants.{WAVE_LEFTS, WAVE_RI
 use Rattle.player_memory.specs.declared.labels.TheConstants.{FILTER_LEFTS, FILTER_RIGHTS, SLIDES_LOW, SLIDES_HIGH}
 use Rattle.player_memory.specs.declared.labels.TheConstants.{PERIODS, ADS, ORDERS_LOW, ORDERS_HIGH, PATTERNS_LOW}
 use Rattle.player_memory.specs.declared.labels.TheConstants.{PATTERNS_HIGH, ORDERS, PATTERNS, ONE_TIMER, ONE_WAVE}
+use Rattle.player_memory.specs.declared.labels.TheConstants.{GATE_FROM, ENVELOPE_FROM}
 use Rattle.player_memory.specs.Forms.{stored}
 use Rattle.player_memory.specs.Gaps.{gap_in}
 use Rattle.player_memory.specs.Playing.{IsListed}
@@ -41,6 +44,9 @@ pub data SongList : Type 0 where
   -- one byte for all of them: their gateoff timer, their first waveform
   OneTimer : SongList
   OneWave : SongList
+  -- the number of the first of them that holds its gate before a note, and of the first that holds its envelope or more
+  GateFrom : SongList
+  EnvelopeFrom : SongList
   -- the addresses of orderlists, three for each subtune, and the places before patterns: low bytes, high bytes
   OrderLows : SongList
   OrderHighs : SongList
@@ -68,14 +74,15 @@ pattern_bytes packed pattern = slice_index_or packed.patterns pattern []
 
 -- A field of an instrument is read where a line of the player may read it: its pulse program, its filter program, its
 -- vibrato and the delay of that where the song has an instrument with such; its gateoff timer where two differ in its low
--- six bits, or one keeps the gate or the envelope; its first waveform where two differ in that; and the other three always.
+-- six bits, or the first holds more before its notes than another; its first waveform where two differ in that; and the
+-- other three always.
 abbrev pub is_read : PackedSong → ℕ → Bool
 is_read packed field =
     if field == 3 then packed.facts.note_pulse
     else if field == 4 then packed.facts.note_filter
     else if field == 5 then packed.facts.note_vibrato
     else if field == 6 then packed.facts.vibrato_delay
-    else if field == 7 then packed.facts.own_timer || packed.facts.legato || packed.facts.no_hard_restart
+    else if field == 7 then packed.facts.own_timer || packed.facts.first_holds
     else if field == 8 then packed.facts.own_wave
     else nat_lt field 9
 
@@ -108,6 +115,8 @@ list_byte layout packed (Instruments field) number =
     instrument_byte field (instrument_at (unpacked_song packed) number)
 list_byte layout packed OneTimer number = timer_of (instrument_at (unpacked_song packed) 1)
 list_byte layout packed OneWave number = (instrument_at (unpacked_song packed) 1).first_wave
+list_byte layout packed GateFrom number = first_holder packed Gate
+list_byte layout packed EnvelopeFrom number = first_holder packed Envelope
 list_byte layout packed OrderLows number = layout.address (ORDERS + number) % 256
 list_byte layout packed OrderHighs number = layout.address (ORDERS + number) / 256
 list_byte layout packed PatternLows number = (layout.address (PATTERNS + number) - 1) % 256
@@ -128,9 +137,19 @@ unread_size packed = sum_by (unread packed) (range_with_len 0 9)
 abbrev pub unlisted_size : PackedSong → ℕ
 unlisted_size packed = if packed.facts.subtunes then 0 else 6 * length packed.subtunes
 
+-- whether the numbers stand from which on instruments hold the gate and the envelope: where the song has such ones, and
+-- its instruments stand in the order of what they hold
+abbrev pub has_gate_from : PackedSong → Bool
+has_gate_from packed = packed.facts.legato && not packed.facts.first_holds
+
+abbrev pub has_envelope_from : PackedSong → Bool
+has_envelope_from packed = packed.facts.no_hard_restart && not packed.facts.first_holds
+
 -- those that stand alone for all instruments
 abbrev pub shared_size : PackedSong → ℕ
-shared_size packed = (if packed.facts.own_timer then 0 else 1) + (if packed.facts.own_wave then 0 else 1)
+shared_size packed =
+    (if packed.facts.own_timer then 0 else 1) + (if packed.facts.own_wave then 0 else 1)
+    + (if has_gate_from packed then 1 else 0) + (if has_envelope_from packed then 1 else 0)
 
 -- what stands of the packed song
 abbrev pub bytes_read : PackedSong → ℕ
@@ -170,6 +189,8 @@ list_length packed Periods = rows_listed packed Speed
 list_length packed (Instruments field) = length packed.instruments
 list_length packed OneTimer = 1
 list_length packed OneWave = 1
+list_length packed GateFrom = 1
+list_length packed EnvelopeFrom = 1
 list_length packed OrderLows = 3 * length packed.subtunes
 list_length packed OrderHighs = 3 * length packed.subtunes
 list_length packed PatternLows = length packed.patterns
@@ -183,13 +204,16 @@ pub record HasNumber (packed : PackedSong) (list : SongList) (number : ℕ) : Ty
   pub to : number < first_number packed list + list_length packed list
 
 -- there is a list of each field of instruments that is read, a timer and a first waveform for all instruments where no
--- two differ in theirs, the addresses of orderlists where there are several subtunes, and three orderlists of each;
--- periods are a list of their own where the code for calculated speeds is kept
+-- two differ in theirs, the numbers from which on they hold the gate and the envelope, the addresses of orderlists
+-- where there are several subtunes, and three orderlists of each; periods are a list of their own where the code for
+-- calculated speeds is kept
 abbrev pub IsSongList : Layout → PackedSong → SongList → Type 0
 IsSongList layout packed Periods = layout.holds NOTE_DEPENDENT ≡ true
 IsSongList layout packed (Instruments field) = is_read packed field ≡ true
 IsSongList layout packed OneTimer = packed.facts.own_timer ≡ false
 IsSongList layout packed OneWave = packed.facts.own_wave ≡ false
+IsSongList layout packed GateFrom = has_gate_from packed ≡ true
+IsSongList layout packed EnvelopeFrom = has_envelope_from packed ≡ true
 IsSongList layout packed OrderLows = packed.facts.subtunes ≡ true
 IsSongList layout packed OrderHighs = packed.facts.subtunes ≡ true
 IsSongList layout packed (OrderBytes subtune channel) = (subtune < length packed.subtunes) × (channel < 3)
@@ -214,6 +238,8 @@ list_label Periods = PERIODS
 list_label (Instruments field) = ADS + field
 list_label OneTimer = ONE_TIMER
 list_label OneWave = ONE_WAVE
+list_label GateFrom = GATE_FROM
+list_label EnvelopeFrom = ENVELOPE_FROM
 list_label OrderLows = ORDERS_LOW
 list_label OrderHighs = ORDERS_HIGH
 list_label PatternLows = PATTERNS_LOW

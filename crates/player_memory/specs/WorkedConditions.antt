@@ -23,10 +23,10 @@ use Rattle.player_memory.specs.declared.conditions.TheConstants.{WAVE_TABLE, WAV
 use Rattle.player_memory.specs.declared.conditions.TheConstants.{ROW_COMMAND, LEGATO, NO_HARD_RESTART, WAVE_DELAY}
 use Rattle.player_memory.specs.declared.conditions.TheConstants.{GATE_NOTE, NOTE_PULSE, NOTE_FILTER, NOTE_VIBRATO}
 use Rattle.player_memory.specs.declared.conditions.TheConstants.{VIBRATO_DELAY}
-use Rattle.player_memory.specs.declared.conditions.TheConstants.{ROW_TONE, FILTER_USED, HELD_NOTE, OWN_TIMER, OWN_WAVE}
-use Rattle.player_memory.specs.declared.conditions.TheConstants.{SUBTUNES, VOICE_TWO, VOICE_THREE}
+use Rattle.player_memory.specs.declared.conditions.TheConstants.{ROW_TONE, FILTER_USED, OWN_TIMER, OWN_WAVE}
+use Rattle.player_memory.specs.declared.conditions.TheConstants.{SUBTUNES, VOICE_TWO, VOICE_THREE, FIRST_HOLDS}
 use Rattle.player_memory.specs.FactLines.{fact_condition, KeepsMarked, KeepsMarkedAlone, KeepsFacts, KeepsShared}
-use Rattle.player_memory.specs.FactLines.{HoldsAlone, is_run}
+use Rattle.player_memory.specs.FactLines.{is_run}
 
 pub record ConditionsAreFeatures : Type 0 where
   pub transposes : bit_of Transpose ≡ TRANSPOSES
@@ -81,11 +81,7 @@ pub record FactLinesAreWorked (layout : Layout) : Type 0 where
   pub subtunes_more : ¬ KeepsMarkedAlone (with_holding layout (SUBTUNES ∷ [])) no_facts
   pub two_more : ¬ KeepsMarkedAlone (with_holding layout (VOICE_TWO ∷ [])) no_facts
   pub three_more : ¬ KeepsMarkedAlone (with_holding layout (VOICE_THREE ∷ [])) no_facts
-  -- those of what is held are kept with the lines of one that holds it, and with no others
-  pub held_gate : HoldsAlone (with_holding layout (HELD_NOTE ∷ LEGATO ∷ []))
-  pub held_envelope : HoldsAlone (with_holding layout (HELD_NOTE ∷ NO_HARD_RESTART ∷ []))
-  pub not_held : HoldsAlone (with_holding layout [])
-  pub held_more : ¬ HoldsAlone (with_holding layout (HELD_NOTE ∷ GATE_NOTE ∷ []))
+  pub first_more : ¬ KeepsMarkedAlone (with_holding layout (FIRST_HOLDS ∷ [])) no_facts
   pub song : ¬ KeepsFacts (with_holding layout []) one_note
   pub free : KeepsShared (with_holding layout [])
   pub tone : ¬ KeepsShared (with_holding layout (ROW_TONE ∷ []))

@@ -12,6 +12,7 @@ use Rattle.player_memory.specs.declared.labels.TheConstants.{NEXT_FREQUENCY_LOWS
 use Rattle.player_memory.specs.declared.labels.TheConstants.{NEXT_WAVE_LEFTS, NEXT_WAVE_RIGHTS, NEXT_PULSE_LEFTS}
 use Rattle.player_memory.specs.declared.labels.TheConstants.{NEXT_FILTER_LEFTS, ADS, SLIDES_LOW, SLIDES_HIGH, PERIODS}
 use Rattle.player_memory.specs.declared.labels.TheConstants.{ORDERS, PATTERNS, ONE_TIMER, ONE_WAVE}
+use Rattle.player_memory.specs.declared.labels.TheConstants.{GATE_FROM, ENVELOPE_FROM}
 use Rattle.player_memory.specs.SongLists.{HasSongLists}
 use Rattle.player_memory.specs.Holds.{order_in, order_label, VoiceHolds, Holds, IsPlayerLayout, PatternStands}
 use Rattle.player_memory.specs.Holds.{KeepsUsed, held}
@@ -77,6 +78,7 @@ pub record ListsAreInMemory : Type 0 where
   pub first_ad : ¬ HasLists (put song_memory 0x1126 0)
   pub last_first_wave : ¬ HasLists (put song_memory 0x1137 0)
   pub one_timer : ¬ HasLists (put song_memory 0x1160 0x82)
+  pub envelope_from : ¬ HasLists (put song_memory 0x1162 1)
   pub first_order_low : ¬ HasLists (put song_memory 0x1138 0)
   pub last_order_high : ¬ HasLists (put song_memory 0x1143 0)
   pub first_pattern_low : ¬ HasLists (put song_memory 0x1144 0)
@@ -124,6 +126,8 @@ pub record LayoutsAreWorked : Type 0 where
   pub over : ¬ IsLaidOut (moved_in list_layout (ORDERS + 5) 0x12000)
   pub timer_over : ¬ IsLaidOut (moved_in list_layout ONE_TIMER 0x11160)
   pub wave_over : ¬ IsLaidOut (moved_in list_layout ONE_WAVE 0x11161)
+  pub gates_over : ¬ IsLaidOut (moved_in list_layout GATE_FROM 0x11163)
+  pub envelopes_over : ¬ IsLaidOut (moved_in list_layout ENVELOPE_FROM 0x11162)
   -- a pattern may stand behind the last place of memory, which is then the place before it; but not further on, not
   -- at 0, where no place is before it, and not behind the last variable
   pub last : PatternAt 0x10000

@@ -19,9 +19,11 @@ use Rattle.player_memory.specs.declared.labels.TheConstants.{FIRST_WAVES, ORDERS
 use Rattle.player_memory.specs.declared.labels.TheConstants.{PATTERNS_HIGH, ORDERS, PATTERNS, SLIDES_LOW, SLIDES_HIGH}
 use Rattle.player_memory.specs.declared.labels.TheConstants.{NEXT_FREQUENCY_LOWS, NEXT_FREQUENCY_HIGHS}
 use Rattle.player_memory.specs.declared.labels.TheConstants.{NEXT_WAVE_LEFTS, NEXT_WAVE_RIGHTS, NEXT_PULSE_LEFTS}
-use Rattle.player_memory.specs.declared.labels.TheConstants.{NEXT_FILTER_LEFTS, ONE_TIMER, ONE_WAVE}
+use Rattle.player_memory.specs.declared.labels.TheConstants.{NEXT_FILTER_LEFTS, ONE_TIMER, ONE_WAVE, GATE_FROM}
+use Rattle.player_memory.specs.declared.labels.TheConstants.{ENVELOPE_FROM}
 use Rattle.player_memory.specs.SongLists.{SongList, FrequencyLows, FrequencyHighs, Lefts, Rights, Periods, Instruments}
-use Rattle.player_memory.specs.SongLists.{OneTimer, OneWave, OrderLows, OrderHighs, PatternLows, PatternHighs}
+use Rattle.player_memory.specs.SongLists.{OneTimer, OneWave, GateFrom, EnvelopeFrom}
+use Rattle.player_memory.specs.SongLists.{OrderLows, OrderHighs, PatternLows, PatternHighs}
 use Rattle.player_memory.specs.SongLists.{OrderBytes, PatternBytes}
 use Rattle.player_memory.specs.SongLists.{is_read, unread_size, unlisted_size, shared_size, bytes_in_front, gap_size}
 use Rattle.player_memory.specs.SongLists.{first_number, list_length, list_byte, list_label, IsSongList, HasNumber}
@@ -51,8 +53,9 @@ second_subtune = record {
   three = 0xE1 ∷ 0x00 ∷ 0xD2 ∷ 0x01 ∷ 0xFF ∷ 0x00 ∷ [];
 }
 
--- Each of the fields that need a fact has one in them. The instruments have one gateoff timer, but for the bit that
--- keeps the envelope, and two first waveforms. There are two subtunes.
+-- Each of the fields that need a fact has one in them, but the gateoff timer: the instruments have one, but for the bit
+-- that holds the envelope, and stand in the order of what they hold. They have two first waveforms. There are two
+-- subtunes.
 abbrev pub its_facts : Facts
 its_facts = record no_facts {
   no_hard_restart = true;
@@ -157,7 +160,7 @@ instrument_pieces =
     ∷ piece (Instruments 4) FILTERS 0x112D 1 (0x00 ∷ 0x01 ∷ [])
     ∷ piece (Instruments 5) VIBRATOS 0x112F 1 (0x02 ∷ 0x00 ∷ [])
     ∷ piece (Instruments 6) DELAYS 0x1131 1 (0x05 ∷ 0xFF ∷ [])
-    ∷ piece (Instruments 7) GATE_TIMERS 0x1133 1 (0x02 ∷ 0x82 ∷ [])
+    ∷ piece EnvelopeFrom ENVELOPE_FROM 0x1162 0 (0x02 ∷ [])
     ∷ piece (Instruments 8) FIRST_WAVES 0x1135 1 (0x09 ∷ 0x11 ∷ [])
     ∷ piece OneTimer ONE_TIMER 0x1160 0 (0x02 ∷ [])
     ∷ []
@@ -186,7 +189,7 @@ abbrev pub next_places : List (ℕ × ℕ)
 next_places =
     (NEXT_FREQUENCY_LOWS, 0x1211) ∷ (NEXT_FREQUENCY_HIGHS, 0x12A1) ∷ (NEXT_WAVE_LEFTS, 0x1114)
     ∷ (NEXT_WAVE_RIGHTS, 0x1118) ∷ (NEXT_PULSE_LEFTS, 0x111C) ∷ (NEXT_FILTER_LEFTS, 0x1120)
-    ∷ (ONE_WAVE, 0x1161) ∷ []
+    ∷ (ONE_WAVE, 0x1161) ∷ (GATE_FROM, 0x1163) ∷ (GATE_TIMERS, 0x1133) ∷ []
 
 abbrev pub all_pieces : List Piece
 all_pieces = table_pieces ++ instrument_pieces ++ order_pieces
@@ -228,35 +231,40 @@ reads_of packed = (map (is_read packed) (range_with_len 0 10), unread_size packe
 
 pub record ReadFieldsAreWorked : Type 0 where
   pub all : reads_of worked_song
-      ≡ (true ∷ true ∷ true ∷ true ∷ true ∷ true ∷ true ∷ true ∷ true ∷ false ∷ [], 0, 1)
+      ≡ (true ∷ true ∷ true ∷ true ∷ true ∷ true ∷ true ∷ false ∷ true ∷ false ∷ [], 2, 2)
   pub none : reads_of (with_facts no_facts)
       ≡ (true ∷ true ∷ true ∷ false ∷ false ∷ false ∷ false ∷ false ∷ false ∷ false ∷ [], 12, 2)
   -- for each of these facts its own field
   pub no_pulse : reads_of (with_facts (record its_facts { note_pulse = false }))
-      ≡ (true ∷ true ∷ true ∷ false ∷ true ∷ true ∷ true ∷ true ∷ true ∷ false ∷ [], 2, 1)
+      ≡ (true ∷ true ∷ true ∷ false ∷ true ∷ true ∷ true ∷ false ∷ true ∷ false ∷ [], 4, 2)
   pub no_filter : reads_of (with_facts (record its_facts { note_filter = false }))
-      ≡ (true ∷ true ∷ true ∷ true ∷ false ∷ true ∷ true ∷ true ∷ true ∷ false ∷ [], 2, 1)
+      ≡ (true ∷ true ∷ true ∷ true ∷ false ∷ true ∷ true ∷ false ∷ true ∷ false ∷ [], 4, 2)
   pub no_vibrato : reads_of (with_facts (record its_facts { note_vibrato = false }))
-      ≡ (true ∷ true ∷ true ∷ true ∷ true ∷ false ∷ true ∷ true ∷ true ∷ false ∷ [], 2, 1)
+      ≡ (true ∷ true ∷ true ∷ true ∷ true ∷ false ∷ true ∷ false ∷ true ∷ false ∷ [], 4, 2)
   pub no_delay : reads_of (with_facts (record its_facts { vibrato_delay = false }))
-      ≡ (true ∷ true ∷ true ∷ true ∷ true ∷ true ∷ false ∷ true ∷ true ∷ false ∷ [], 2, 1)
+      ≡ (true ∷ true ∷ true ∷ true ∷ true ∷ true ∷ false ∷ false ∷ true ∷ false ∷ [], 4, 2)
   pub one_wave : reads_of (with_facts (record its_facts { own_wave = false }))
-      ≡ (true ∷ true ∷ true ∷ true ∷ true ∷ true ∷ true ∷ true ∷ false ∷ false ∷ [], 2, 2)
-  -- the gateoff timer for any of three
-  pub one_timer : reads_of (with_facts (record its_facts { no_hard_restart = false }))
-      ≡ (true ∷ true ∷ true ∷ true ∷ true ∷ true ∷ true ∷ false ∷ true ∷ false ∷ [], 2, 1)
-  pub own_timer : reads_of (with_facts (record its_facts { no_hard_restart = false; own_timer = true }))
-      ≡ (true ∷ true ∷ true ∷ true ∷ true ∷ true ∷ true ∷ true ∷ true ∷ false ∷ [], 0, 0)
-  pub gate_kept : reads_of (with_facts (record its_facts { no_hard_restart = false; legato = true }))
+      ≡ (true ∷ true ∷ true ∷ true ∷ true ∷ true ∷ true ∷ false ∷ false ∷ false ∷ [], 4, 3)
+  -- the gateoff timer for either of two
+  pub own_timer : reads_of (with_facts (record its_facts { own_timer = true }))
       ≡ (true ∷ true ∷ true ∷ true ∷ true ∷ true ∷ true ∷ true ∷ true ∷ false ∷ [], 0, 1)
+  pub first_holds : reads_of (with_facts (record its_facts { legato = true; first_holds = true }))
+      ≡ (true ∷ true ∷ true ∷ true ∷ true ∷ true ∷ true ∷ true ∷ true ∷ false ∷ [], 0, 1)
+  -- a number stands for those that hold the gate, and for those that hold the envelope
+  pub none_holds : reads_of (with_facts (record its_facts { no_hard_restart = false }))
+      ≡ (true ∷ true ∷ true ∷ true ∷ true ∷ true ∷ true ∷ false ∷ true ∷ false ∷ [], 2, 1)
+  pub gate_holds : reads_of (with_facts (record its_facts { no_hard_restart = false; legato = true }))
+      ≡ (true ∷ true ∷ true ∷ true ∷ true ∷ true ∷ true ∷ false ∷ true ∷ false ∷ [], 2, 2)
+  pub both_hold : reads_of (with_facts (record its_facts { legato = true }))
+      ≡ (true ∷ true ∷ true ∷ true ∷ true ∷ true ∷ true ∷ false ∷ true ∷ false ∷ [], 2, 3)
   -- the addresses of six orderlists stand nowhere where the song hasn't several subtunes, and of three those of three
   pub listed : unlisted_size worked_song ≡ 0
   pub unlisted : unlisted_size (with_facts (record its_facts { subtunes = false })) ≡ 12
   pub of_one : unlisted_size one_subtune ≡ 6
   -- in front of the frequencies there are as many fewer bytes, and those that stand for both
-  pub in_front : bytes_in_front worked_song ≡ 93
-  pub in_front_of_one : bytes_in_front (record one_subtune { facts = its_facts }) ≡ 74
-  pub in_front_unlisted : bytes_in_front one_subtune ≡ 68
+  pub in_front : bytes_in_front worked_song ≡ 92
+  pub in_front_of_one : bytes_in_front (record one_subtune { facts = its_facts }) ≡ 73
+  pub in_front_unlisted : bytes_in_front one_subtune ≡ 67
   pub in_front_of_fewer : bytes_in_front (with_facts no_facts) ≡ 70
 
 -- ---- gaps in front of the frequencies
@@ -272,10 +280,10 @@ asking first count within = record worked_song {
 pub record GapsAreWorked : Type 0 where
   -- where it asks for none
   pub none : gap_size (asking 0 0 (omega arith)) ≡ 0
-  -- with 93 bytes in front there is none up to number 93; from 94 on it is one byte more a number
-  pub last : gap_size (asking 93 3 (omega arith)) ≡ 0
-  pub beyond : gap_size (asking 94 3 (omega arith)) ≡ 1
-  pub far : gap_size (asking 128 1 (omega arith)) ≡ 35
+  -- with 92 bytes in front there is none up to number 92; from 93 on it is one byte more a number
+  pub last : gap_size (asking 92 3 (omega arith)) ≡ 0
+  pub beyond : gap_size (asking 93 3 (omega arith)) ≡ 1
+  pub far : gap_size (asking 128 1 (omega arith)) ≡ 36
   -- with 70, where six fields of instruments aren't read, and the orderlists' addresses stand nowhere
   pub fewer : gap_size (record (asking 92 3 (omega arith)) { facts = no_facts }) ≡ 22
 
@@ -305,6 +313,9 @@ pub record SongListsAreWorked : Type 0 where
   pub no_pattern : ¬ IsSongList list_layout worked_song (PatternBytes 2)
   pub no_pulses : ¬ IsSongList list_layout (with_facts no_facts) (Instruments 3)
   pub no_one_wave : ¬ IsSongList list_layout worked_song OneWave
+  pub no_timers : ¬ IsSongList list_layout worked_song (Instruments 7)
+  pub no_gate_from : ¬ IsSongList list_layout worked_song GateFrom
+  pub no_envelope_from : ¬ IsSongList list_layout (with_facts (record its_facts { first_holds = true })) EnvelopeFrom
   pub no_one_timer : ¬ IsSongList list_layout (with_facts (record its_facts { own_timer = true })) OneTimer
   pub no_lows : ¬ IsSongList list_layout one_subtune OrderLows
   pub no_highs : ¬ IsSongList list_layout one_subtune OrderHighs
@@ -312,6 +323,11 @@ pub record SongListsAreWorked : Type 0 where
   -- a first waveform for both instruments, where they have one
   pub one_wave : IsAsWorked list_layout (with_facts (record its_facts { own_wave = false }))
       (piece OneWave ONE_WAVE 0x1161 0 (0x09 ∷ []))
+  -- the gateoff timers, where they have two; and one behind the last where none holds its gate
+  pub timers : IsAsWorked list_layout (with_facts (record its_facts { own_timer = true }))
+      (piece (Instruments 7) GATE_TIMERS 0x1133 1 (0x02 ∷ 0x82 ∷ []))
+  pub gate_from : IsAsWorked list_layout (with_facts (record its_facts { legato = true }))
+      (piece GateFrom GATE_FROM 0x1163 0 (0x03 ∷ []))
   pub no_periods : ¬ IsSongList plain_layout plain_song Periods
   -- the numbers of a list at its ends
   pub speed_row_none : HasNumber worked_song (Rights Speed) 0

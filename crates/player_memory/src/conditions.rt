@@ -3,7 +3,7 @@
 //! Those from 0 to 23 are the features of a song, by their bits: each holds where the song uses the feature. A command
 //! is one of a pattern's row or of the wave table; where a pattern is named, one of a row alone. Behind them stand the
 //! options, and then what several features have in common: lines that are kept where the song uses any of them. Those
-//! from 34 to 54 are the song's facts, by their numbers, and the last ones what several facts or features have in
+//! from 34 to 55 are the song's facts, by their numbers, and the last ones what several facts or features have in
 //! common.
 
 /// An orderlist transposes.
@@ -121,19 +121,21 @@ pub const SUBTUNES: u8 = 52;
 pub const VOICE_TWO: u8 = 53;
 /// So has channel 3.
 pub const VOICE_THREE: u8 = 54;
+/// Instrument 1 holds more before its notes than another one.
+pub const FIRST_HOLDS: u8 = 55;
 
 /// A row of a pattern has a command: command 3, one that runs, or one that is done once.
-pub const ROW_COMMAND: u8 = 55;
+pub const ROW_COMMAND: u8 = 56;
 /// A row of the wave table is a delay or a command.
-pub const SPECIAL_ROW: u8 = 56;
+pub const SPECIAL_ROW: u8 = 57;
 /// An instrument leaves something as it is before a note: the gate, or the envelope alone.
-pub const HELD_NOTE: u8 = 57;
+pub const HELD_NOTE: u8 = 58;
 
 /// A command may run at a tick: the song uses one of features 2 to 7, a row has one of the commands 1 to 4, or the wave
 /// table a command.
-pub const EFFECTS: u8 = 58;
+pub const EFFECTS: u8 = 59;
 /// Something sets the filter: a program, or one of the commands `$B` and `$C`.
-pub const FILTER_USED: u8 = 59;
+pub const FILTER_USED: u8 = 60;
 
 /// How many conditions there are.
-pub const CONDITIONS: u8 = 60;
+pub const CONDITIONS: u8 = 61;

@@ -178,6 +178,11 @@ pub const PATTERNS_HIGH: u16 = 157;
 pub const ONE_TIMER: u16 = 158;
 /// The first waveform, where all of them have the same.
 pub const ONE_WAVE: u16 = 159;
+/// The number of the first instrument that holds its gate before a note, where they stand in the order of what they
+/// hold.
+pub const GATE_FROM: u16 = 162;
+/// The number of the first that holds its envelope, or its gate as well.
+pub const ENVELOPE_FROM: u16 = 163;
 
 /// The first of the labels of the orderlists: three for each subtune.
 pub const ORDERS: u16 = 256;

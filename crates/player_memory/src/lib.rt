@@ -15,6 +15,6 @@ mod listed;
 pub mod variables;
 
 pub use listed::{
-    DELAY_BYTE, FIRST_WAVE_BYTE, TIMER_BYTE, bytes_read, gap_size, is_read, shared_size,
-    unlisted_size, unread_size,
+    DELAY_BYTE, FIRST_WAVE_BYTE, TIMER_BYTE, bytes_read, gap_size, has_envelope_from,
+    has_gate_from, is_read, shared_size, unlisted_size, unread_size,
 };

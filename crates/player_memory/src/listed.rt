@@ -2,7 +2,7 @@
 
 ghost use Rattle.std.specs.Prelude.{◌≡◌, ◌≤◌, ◌<◌, ◌*◌, length};
 ghost use Rattle.player_memory.specs.SongLists.{is_read, unread, unread_size, unlisted_size, shared_size};
-ghost use Rattle.player_memory.specs.SongLists.{bytes_read, gap_size};
+ghost use Rattle.player_memory.specs.SongLists.{has_gate_from, has_envelope_from, bytes_read, gap_size};
 
 use packed_form::PackedSong;
 
@@ -36,7 +36,7 @@ pub fn is_read(packed: &PackedSong, field: usize) -> bool
         FILTER_BYTE => facts.note_filter,
         VIBRATO_BYTE => facts.note_vibrato,
         DELAY_BYTE => facts.vibrato_delay,
-        TIMER_BYTE => facts.own_timer || facts.legato || facts.no_hard_restart,
+        TIMER_BYTE => facts.own_timer || facts.first_holds,
         FIRST_WAVE_BYTE => facts.own_wave,
         _ => true,
     }
@@ -83,20 +83,38 @@ pub fn unlisted_size(packed: &PackedSong) -> u32
     }
 }
 
-/// The bytes that stand alone for all instruments: a gateoff timer where no two that the song uses differ in it, and a
-/// first waveform where no two differ in that.
+/// Whether the number stands of the first instrument that holds its gate before a note: where the song has such a one,
+/// and its instruments stand in the order of what they hold.
+pub fn has_gate_from(packed: &PackedSong) -> bool
+    ensures { result ≡ has_gate_from packed.now }
+{
+    packed.facts.legato && !packed.facts.first_holds
+}
+
+/// Whether that of the first stands that holds its envelope, or its gate as well.
+pub fn has_envelope_from(packed: &PackedSong) -> bool
+    ensures { result ≡ has_envelope_from packed.now }
+{
+    packed.facts.no_hard_restart && !packed.facts.first_holds
+}
+
+/// The bytes that stand alone for all instruments: a gateoff timer where no two that the song uses differ in it, a
+/// first waveform where no two differ in that, and the numbers from which on they hold the gate and the envelope.
 pub fn shared_size(packed: &PackedSong) -> u32
     ensures size { result ≡ shared_size packed.now }
-    ensures most { result ≤ 2 }
+    ensures most { result ≤ 4 }
 {
-    u32::from(!packed.facts.own_timer) + u32::from(!packed.facts.own_wave)
+    u32::from(!packed.facts.own_timer)
+        + u32::from(!packed.facts.own_wave)
+        + u32::from(has_gate_from(packed))
+        + u32::from(has_envelope_from(packed))
 }
 
 /// The bytes of a packed song that stand in an image: those of the fields of instruments that no line reads are left
 /// out, and the addresses of the orderlists of one subtune alone; those that stand alone for all instruments come in.
 pub fn bytes_read(packed: &PackedSong) -> u32
     ensures size { result ≡ bytes_read packed.now }
-    ensures most { result ≤ 81041 }
+    ensures most { result ≤ 81043 }
 {
     packed.size() + shared_size(packed) - unread_size(packed) - unlisted_size(packed)
 }

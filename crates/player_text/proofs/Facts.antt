@@ -80,10 +80,10 @@ takes_where holds condition is e (AgainIfTree test) = omega arith
 takes_where holds condition is e NeverTree = omega arith
 
 -- where the voices take turns between two tempos, none of them is told from the others; else there are no lines for that
-voice_takes : (holds : ℕ → Bool) → size holds voice_tree ≤ 1336
+voice_takes : (holds : ℕ → Bool) → size holds voice_tree ≤ 1338
 voice_takes holds = by_turns (holds FUNK_TEMPO) refl
   where
-    by_turns : (turns : Bool) → holds FUNK_TEMPO ≡ turns → size holds voice_tree ≤ 1336
+    by_turns : (turns : Bool) → holds FUNK_TEMPO ≡ turns → size holds voice_tree ≤ 1338
     by_turns true on = (let few = takes_where holds FUNK_TEMPO true on voice_tree in omega (arith, few))
     by_turns false off = (let few = takes_where holds FUNK_TEMPO false off voice_tree in omega (arith, few))
 

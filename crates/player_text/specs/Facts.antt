@@ -11,7 +11,7 @@ use Rattle.scope_lines.specs.Readings.{is_block}
 use Rattle.scope_lines.specs.Known.{nothing, the_a, the_x, shown, either, known}
 use Rattle.scope_lines.specs.Homes.{uses_only}
 use Rattle.player_memory.specs.declared.labels.TheConstants.{VARIABLES, FREQUENCY_LOWS, ONE_WAVE, SLIDES_LOW}
-use Rattle.player_memory.specs.declared.labels.TheConstants.{SLIDES_HIGH, FILTER_LEFTS, NEXT_FILTER_LEFTS}
+use Rattle.player_memory.specs.declared.labels.TheConstants.{SLIDES_HIGH, GATE_FROM, ENVELOPE_FROM, FILTER_LEFTS, NEXT_FILTER_LEFTS}
 use Rattle.player_memory.specs.declared.labels.TheConstants.{FILTER_RIGHTS, ORDERS_LOW, ORDERS_HIGH}
 use Rattle.player_memory.specs.Labels.{is_shared}
 use Rattle.player_text.specs.declared.texts.Start.{Start}
@@ -54,7 +54,9 @@ abbrev pub is_variable : ℕ → Bool
 is_variable label = nat_lt label VARIABLES
 
 abbrev pub is_list : ℕ → Bool
-is_list label = nat_le FREQUENCY_LOWS label && nat_le label ONE_WAVE || label == SLIDES_LOW || label == SLIDES_HIGH
+is_list label =
+    nat_le FREQUENCY_LOWS label && nat_le label ONE_WAVE || label == SLIDES_LOW || label == SLIDES_HIGH
+    || label == GATE_FROM || label == ENVELOPE_FROM
 
 abbrev pub is_filter_list : ℕ → Bool
 is_filter_list label = label == FILTER_LEFTS || label == NEXT_FILTER_LEFTS || label == FILTER_RIGHTS
@@ -72,17 +74,18 @@ pub record NameFew : Type 0 where
 
 -- ---- how long and how heavy they are
 
--- a block has so many lines; so many bytes where no condition holds, and so many where all do, which are the most; and
--- it runs at most so many instructions
-pub record Measures (lines : List Line) (count bare full heavy : ℕ) : Type 0 where
+-- a block has so many lines; so many bytes where no condition holds, so many where all do, and never more than the
+-- greatest; and it runs at most so many instructions
+pub record Measures (lines : List Line) (count bare full greatest heavy : ℕ) : Type 0 where
   pub counts : length lines ≡ count
   pub takes_bare : size (λ condition. false) (tree_of lines) ≡ bare
   pub takes_full : size (λ condition. true) (tree_of lines) ≡ full
-  pub takes_most : (holds : ℕ → Bool) → size holds (tree_of lines) ≤ full
+  pub takes_most : (holds : ℕ → Bool) → size holds (tree_of lines) ≤ greatest
   pub weighs : weight (tree_of lines) ≡ heavy
 
--- of a voice the walk alone has 4,340 instructions, in 255 turns, and the halves of a half tone 64, in 16
+-- Of a voice the walk alone has 4,340 instructions, in 255 turns, and the halves of a half tone 64, in 16. It takes most
+-- where the first instrument holds no more than another.
 pub record AreMeasured : Type 0 where
-  pub filter : Measures filter_lines 66 16 102 40
-  pub voice : Measures voice_lines 1012 312 1336 4934
-  pub init : (start : Start) (cleared : ℕ) → Measures (init_lines start cleared) 62 46 92 425
+  pub filter : Measures filter_lines 66 16 102 102 40
+  pub voice : Measures voice_lines 1023 312 1336 1338 4934
+  pub init : (start : Start) (cleared : ℕ) → Measures (init_lines start cleared) 62 46 92 92 425

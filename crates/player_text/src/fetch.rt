@@ -4,12 +4,13 @@ use crate::joints::{BEGINS, FETCHES, FIRST, LATE, PULSED, SOUNDS, WALKS};
 use crate::pieces::pieces;
 use crate::walk::{ORDER_WALKED, PATTERN_BEGUN, PATTERN_FOUND, PLAY_REPEATED};
 use player_memory::conditions::{
-    GATE_NOTE, HELD_NOTE, LEGATO, NO_HARD_RESTART, OWN_TIMER, ROW_COMMAND, ROW_TONE, SKIP_FIRST,
-    SKIP_PULSE, TRANSPOSES,
+    FIRST_HOLDS, GATE_NOTE, HELD_NOTE, LEGATO, NO_HARD_RESTART, OWN_TIMER, ROW_COMMAND, ROW_TONE,
+    SKIP_FIRST, SKIP_PULSE, TRANSPOSES,
 };
 use player_memory::labels::{
-    AD, GATE, GATE_TIMER, GATE_TIMERS, INSTRUMENT, KEPT_PARAM, NEW_COMMAND, NEW_NOTE, NEW_PARAM,
-    OFFSET, ONE_TIMER, PATTERN_HIGH, PATTERN_LOW, REST, SR, TICK, TRANSPOSE,
+    AD, ENVELOPE_FROM, GATE, GATE_FROM, GATE_TIMER, GATE_TIMERS, INSTRUMENT, KEPT_PARAM,
+    NEW_COMMAND, NEW_NOTE, NEW_PARAM, OFFSET, ONE_TIMER, PATTERN_HIGH, PATTERN_LOW, REST, SR, TICK,
+    TRANSPOSE,
 };
 use scopes::{Line, text};
 
@@ -183,11 +184,17 @@ pub const GATE_CLOSED: &[Line] = text! {
             Cmp Number 3;
             leave HELD on Zero;
         }
-        when HELD_NOTE { // Idle where the gateoff timer is below $40; the carry is its bit $80.
-            Ldy Own INSTRUMENT;
-            Lda Entry GATE_TIMERS;
-            Asl;
-            when LEGATO { leave HELD on Minus; } // Idle where the minus is off; keeps A, Y and the carry.
+        when HELD_NOTE { // Idle where the instrument holds nothing.
+            choose FIRST_HOLDS { // Both tell the same in a song without it: the carry that the envelope is held.
+                Ldy Own INSTRUMENT;
+                Lda Entry GATE_TIMERS;
+                Asl;
+                when LEGATO { leave HELD on Minus; } // Idle where the minus is off; keeps A, Y and the carry.
+            } or {
+                Lda Own INSTRUMENT;
+                when LEGATO { Cmp Var GATE_FROM; leave HELD on Carry; } // Idle where A is below it; keeps A and Y.
+                when NO_HARD_RESTART { Cmp Var ENVELOPE_FROM; } // Idle where A is below it; keeps A and Y.
+            }
         }
         Lda Number 0xFE;
         Sta Own GATE;

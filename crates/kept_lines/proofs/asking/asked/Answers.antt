@@ -21,7 +21,7 @@ loop-condition-preserved c = record {
     facts : Facts
     facts = c.args.facts.now
 
-    few : condition < 55 → condition < 60
+    few : condition < 56 → condition < 61
     few below = omega (arith, below)
 
     now : c.if-asks.set ≡ bits_below (asks features facts) (condition + 1)

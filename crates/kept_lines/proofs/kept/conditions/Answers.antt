@@ -38,5 +38,5 @@ unfolding kept_set
 returns c =
     let from = c.loop-condition-test.false in
     let to = c.loop-condition.auto.condition-end in
-    let all : c.loop-condition.condition ≡ 60 = omega (arith, from, to) in
+    let all : c.loop-condition.condition ≡ 61 = omega (arith, from, to) in
     c.loop-condition.invariant.set ∙ ap (bits_below (keeps c.args.asked.0 c.args.options)) all
