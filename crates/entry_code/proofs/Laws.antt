@@ -11,7 +11,7 @@ pub use Rattle.entry_code.proofs.LastBytes.{behind}
 pub use Rattle.entry_code.proofs.LastBytes.{noted, KeepsNote}
 pub use Rattle.entry_code.proofs.Readings.{Read, read_leads, taken, compared}
 pub use Rattle.entry_code.proofs.Ends.{AtOffset, end_leads}
-pub use Rattle.entry_code.proofs.Gates.{AtHeld, TimerAt, KeepsGate, held_leads}
+pub use Rattle.entry_code.proofs.Gates.{AtHeld, HoldersAt, TimerAt, KeepsGate, held_leads}
 -- the rule's voice behind a row, and where it is in its song
 pub use Rattle.entry_code.proofs.Moves.{InPlay, command_taken, fields_moved, moved_on, moved_out, plays_kept, row_kept}
 pub use Rattle.entry_code.proofs.Moves.{same_pattern, same_walk, stands_next}

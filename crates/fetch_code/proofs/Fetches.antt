@@ -1,5 +1,5 @@
 -- The whole step that fetches a row.
-use Rattle.std.proofs.Common.{◌≡◌, ◌≢◌, ℕ, ◌+◌, ◌-◌, ◌%◌, ◌<◌, ◌&&◌, Bool, true, false, nat_eq}
+use Rattle.std.proofs.Common.{◌≡◌, ◌≢◌, ℕ, ◌+◌, ◌<◌, ◌&&◌, Bool, true, false, nat_eq}
 use Rattle.std.proofs.Common.{if◌then◌else◌, List, [], ◌∷◌, length, All, refl, sym, ap, ◌∙◌, subst, arith}
 use Rattle.std.proofs.lemmas.Bool.{both_ways, eq-eqb, ne_eqb, eqb-true, eqb-false}
 use Rattle.code_runs.specs.Runs.{put}
@@ -29,7 +29,6 @@ use Rattle.player_desk.proofs.Laws.{around_on, Around}
 use Rattle.entry_code.proofs.Laws.{behind, compared, take_tree, SamePlay}
 use Rattle.entry_code.proofs.Laws.{InPlay, same_pattern, same_walk}
 use Rattle.fetch_code.proofs.Taken.{take_leads}
-use Rattle.fetch_code.specs.FetchBlock.{left_out}
 use Rattle.fetch_code.proofs.Outcomes.{Fetched, fetch_ways}
 use Rattle.fetch_code.proofs.Reaching.{fetched_voice, AtWalk, AtLate, AtFirst, AtFetches, FetchGround, waits_on}
 use Rattle.fetch_code.proofs.Reaching.{at_fetch, not_at_fetch, later, within, between, no_and, stays, rests_within}

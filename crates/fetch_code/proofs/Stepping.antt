@@ -14,7 +14,7 @@ use Rattle.scopes.specs.Meaning.{Outcome, Done, Left, Ran, each_one, ran}
 use Rattle.player_memory.specs.declared.conditions.TheConstants.{TRANSPOSES}
 use Rattle.player_memory.specs.declared.labels.TheConstants.{REST, OFFSET, PATTERN_LOW, PATTERN_HIGH, ORDER_LOW}
 use Rattle.player_memory.specs.declared.labels.TheConstants.{ORDER_HIGH, ORDER_PLACE, TRANSPOSE, REPEAT, LENT}
-use Rattle.player_memory.specs.declared.labels.TheConstants.{GATE_TIMERS, ONE_TIMER}
+use Rattle.player_memory.specs.declared.labels.TheConstants.{GATE_TIMERS, ONE_TIMER, GATE_FROM, ENVELOPE_FROM}
 use Rattle.player_memory.specs.Labels.{is_own}
 use Rattle.player_memory.specs.Playing.{own_at, with_voice}
 use Rattle.player_memory.specs.Fetching.{transpose_byte, HasOrder, EntryIsNext, AreRests, SongStands}
@@ -25,9 +25,12 @@ use Rattle.player_desk.proofs.Laws.{Shows, is_playing, others_stay, all_slides_s
 use Rattle.player_desk.proofs.VoiceDesks.{Either}
 use Rattle.player_text.specs.Steps.{fetch_tree as step_tree}
 use Rattle.player_text.specs.declared.joints.TheConstants.{SOUNDS, PULSED}
-use Rattle.fetch_code.specs.FetchBlock.{fetch_tree, left_out, way_of, IsKept, HasOrderlist, HasRows, Fetches}
+use Rattle.fetch_code.specs.FetchBlock.{fetch_tree, left_out, way_of, IsKept, HasOrderlist, TellsHold, HasRows}
+use Rattle.fetch_code.specs.FetchBlock.{Fetches}
 use Rattle.fetch_code.specs.FetchBlock.{FetchBlockFetches}
-use Rattle.entry_code.proofs.Laws.{SamePlay}
+use Rattle.song_facts.specs.declared.hold.Hold.{Hold}
+use Rattle.song_facts.specs.declared.hold.Hold.TheVariants.{Envelope, Gate}
+use Rattle.entry_code.proofs.Laws.{SamePlay, HoldersAt}
 use Rattle.fetch_code.proofs.Rests.{same_next}
 use Rattle.fetch_code.proofs.Outcomes.{Fetched, fetch_ways}
 use Rattle.fetch_code.proofs.Reaching.{fetched_voice, FetchGround}
@@ -44,6 +47,16 @@ no_transposes layout order each none =
     All-from_get_or IsNone order.entries 0
     (λ i inside. (All-get_or (IsKept layout) order.entries i 0 inside each).transpose none)
 
+-- a number that tells what instruments hold is found
+holders_at : (layout : Layout) (rows voice : ℕ) (desk : Desk) (label : ℕ) (look : LookUps) (hold : Hold)
+    (instrument : ℕ) → TellsHold layout rows desk.at label look hold instrument →
+    HoldersAt (reader_of layout rows voice desk) label look hold instrument
+holders_at layout rows voice desk label look hold instrument told = record {
+  from = told.from;
+  reads = finds_alone layout rows voice desk label _ told.stands;
+  tells = told.tells;
+}
+
 fetch_ground : (layout : Layout) (rows voice : ℕ) (desk : Desk) (label : ℕ) (look : LookUps) (packed : ℕ → List ℕ)
     (order : Order) (v : Voice) → HasOrderlist layout rows desk.at label order →
     HasRows layout rows desk.at look packed order v → FetchGround (reader_of layout rows voice desk) look packed order v
@@ -52,7 +65,12 @@ fetch_ground layout rows voice desk label look packed order v has at = record {
       (at.pattern n);
   spells = λ n. (at.pattern n).spells;
   idle = λ none n. ap transpose_byte (none_played order (no_transposes layout order has.each none) n);
-  timer = record { reads = λ kept. finds layout rows voice desk GATE_TIMERS _ _ (at.timer kept); byte = at.timer_byte };
+  timer = record {
+    reads = λ kept. finds layout rows voice desk GATE_TIMERS _ _ (at.timer kept);
+    gates = λ out kept. holders_at layout rows voice desk GATE_FROM look Gate _ (at.gates out kept);
+    envelopes = λ out kept. holders_at layout rows voice desk ENVELOPE_FROM look Envelope _ (at.envelopes out kept);
+    byte = at.timer_byte;
+  };
   one_timer = λ out. finds_alone layout rows voice desk ONE_TIMER _ (at.one_timer out);
   tick = at.tick;
   gate_timer = at.gate_timer;

@@ -1,5 +1,5 @@
 -- The code that fetches a row, and what it does. This is the project's own player.
-use Rattle.std.specs.Prelude.{◌≡◌, ℕ, ◌<◌, ◌≤◌, ◌⊎◌, ◌&&◌, ◌||◌, Bool, true, false, List}
+use Rattle.std.specs.Prelude.{◌≡◌, ℕ, ◌<◌, ◌≤◌, ◌⊎◌, ◌↔◌, ◌&&◌, ◌||◌, Bool, true, false, List}
 use Rattle.std.specs.Prelude.{length, All}
 use Rattle.cpu6502.specs.declared.memory.TheConstants.{MEMORY_SIZE}
 use Rattle.song_model.specs.declared.rows.Row.{Row}
@@ -12,6 +12,9 @@ use Rattle.play_model.specs.LookUps.{LookUps}
 use Rattle.play_model.specs.State.{Voice, Playing}
 use Rattle.play_model.specs.FetchRow.{row_taken}
 use Rattle.play_model.specs.Frame.{is_at_fetch, is_between_patterns, row_fetched}
+use Rattle.song_facts.specs.declared.hold.Hold.{Hold}
+use Rattle.song_facts.specs.declared.hold.Hold.TheVariants.{Envelope, Gate}
+use Rattle.song_facts.specs.Hold.{hold_of, how_much}
 use Rattle.song_facts.specs.Facts.{IsGateNote, IsTone, IsLegato, KeepsEnvelope}
 use Rattle.packed_form.specs.WalkLaws.{WalkEnds}
 use Rattle.scopes.specs.Desk.{Desk, Layout}
@@ -19,8 +22,9 @@ use Rattle.scopes.specs.Trees.{Tree, NoneTree, ThenTree, ScopeTree}
 use Rattle.scopes.specs.Meaning.{Outcome, Done, Left, Ran, each_one, ran}
 use Rattle.player_memory.specs.declared.conditions.TheConstants.{TRANSPOSES, REPEATS, SKIP_PULSE, SKIP_FIRST}
 use Rattle.player_memory.specs.declared.conditions.TheConstants.{GATE_NOTE, ROW_TONE, LEGATO, NO_HARD_RESTART}
-use Rattle.player_memory.specs.declared.conditions.TheConstants.{HELD_NOTE, OWN_TIMER}
+use Rattle.player_memory.specs.declared.conditions.TheConstants.{FIRST_HOLDS, OWN_TIMER}
 use Rattle.player_memory.specs.declared.labels.TheConstants.{LENT, GATE_TIMERS, ONE_TIMER}
+use Rattle.player_memory.specs.declared.labels.TheConstants.{GATE_FROM, ENVELOPE_FROM}
 use Rattle.player_memory.specs.FactLines.{KeepsShared}
 use Rattle.player_memory.specs.Rooms.{IsRoom, MayUse}
 use Rattle.player_memory.specs.Playing.{own_at, shared_at, IsListed, IsAlone, IsPlaying, IsAtVoice, OthersStay}
@@ -68,17 +72,29 @@ pub record KeepsNext (layout : Layout) (look : LookUps) (order : Order) (v : Voi
   pub soft : KeepsEnvelope (look.instrument (next_instrument look order v)) → layout.holds NO_HARD_RESTART ≡ true
   pub shared : KeepsShared layout
 
--- Each pattern that the orderlist plays stands there, too, and the gateoff timer of that instrument, where the lines are
--- kept that find out by it whether the gate or the envelope stays. Where the lines for timers of their own aren't kept,
--- one timer stands alone for all instruments: the voice's. What the code reads of the voice are bytes; and the lines are kept that the next row asks
+-- a number stands alone from which on instruments hold so much before a note, or more; it tells whether this one does
+pub record TellsHold (layout : Layout) (rows : ℕ) (at : ℕ → ℕ) (label : ℕ) (look : LookUps) (hold : Hold)
+    (instrument : ℕ) : Type 0 where
+  pub from : ℕ
+  pub stands : IsAlone layout rows at label from
+  pub tells : (from ≤ instrument) ↔ (how_much hold ≤ how_much (hold_of (look.instrument instrument)))
+
+-- Each pattern that the orderlist plays stands there, too. What that instrument holds is found: by its gateoff timer
+-- where the lines are kept for a first one that holds more than another, else by the numbers from which on instruments
+-- hold the gate, and the envelope. Where the lines for timers of their own aren't kept, one timer stands alone for all
+-- instruments: the voice's. What the code reads of the voice are bytes; and the lines are kept that the next row asks
 -- for.
 pub record HasRows (layout : Layout) (rows : ℕ) (at : ℕ → ℕ) (look : LookUps) (packed : ℕ → List ℕ) (order : Order)
     (v : Voice) : Type 0 where
   pub pattern : (n : ℕ) →
       IsPattern layout rows at look (played order n).pattern (packed (played order n).pattern)
-  pub timer : layout.holds HELD_NOTE ≡ true →
+  pub timer : layout.holds FIRST_HOLDS ≡ true →
       IsListed layout rows at GATE_TIMERS (next_instrument look order v)
       (look.instrument (next_instrument look order v)).gate_timer
+  pub gates : layout.holds FIRST_HOLDS ≡ false → layout.holds LEGATO ≡ true →
+      TellsHold layout rows at GATE_FROM look Gate (next_instrument look order v)
+  pub envelopes : layout.holds FIRST_HOLDS ≡ false → layout.holds NO_HARD_RESTART ≡ true →
+      TellsHold layout rows at ENVELOPE_FROM look Envelope (next_instrument look order v)
   pub one_timer : layout.holds OWN_TIMER ≡ false → IsAlone layout rows at ONE_TIMER v.gate_timer
   pub timer_byte : (look.instrument (next_instrument look order v)).gate_timer < 256
   pub tick : v.tick < 256

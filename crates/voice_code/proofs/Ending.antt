@@ -12,7 +12,7 @@ use Rattle.player_memory.specs.declared.labels.TheConstants.{REST, OFFSET, PATTE
 use Rattle.player_memory.specs.declared.labels.TheConstants.{ORDER_HIGH, ORDER_PLACE, TRANSPOSE, REPEAT}
 use Rattle.player_memory.specs.declared.variables.TheConstants.{SONG_BYTES}
 use Rattle.player_memory.specs.Labels.{is_own}
-use Rattle.player_memory.specs.Rooms.{IsRoom}
+use Rattle.player_memory.specs.Rooms.{IsRoom, MayUse}
 use Rattle.player_memory.specs.Playing.{own_at, IsPlaying, IsAtVoice, AreSame, OthersStay}
 use Rattle.player_desk.proofs.Laws.{SameVariables, playing_stays, own_below}
 use Rattle.player_memory.specs.Fetching.{IsInSong}
@@ -21,7 +21,6 @@ use Rattle.register_code.proofs.Laws.{register_block_writes}
 use Rattle.voice_code.specs.VoiceBlock.{VoicePlays}
 use Rattle.voice_code.proofs.Stages.{NoneLent, PlainSlidesStay}
 use Rattle.voice_code.proofs.SongLists.{in_song_stays}
-use Rattle.voice_code.proofs.Effects.{Ground}
 
 -- before the registers: the voice is in this state and in its song, and all else is left
 pub record Played (layout : Layout) (rows voice label : ℕ) (look : LookUps) (packed : ℕ → List ℕ) (order : Order)
@@ -73,15 +72,15 @@ slide_same : (layout : Layout) (rows row : ℕ) (one two : ℕ → ℕ) (label :
 slide_same layout rows row one two label same to few = same (layout.address label + row) (omega (arith, to, few))
 
 pub written : (layout : Layout) (rows voice label : ℕ) (look : LookUps) (packed : ℕ → List ℕ) (order : Order)
-    (before mid : Desk) (s : Playing) → Ground layout rows voice →
+    (before mid : Desk) (s : Playing) → IsRoom layout rows → MayUse layout rows → voice < 3 →
     Played layout rows voice label look packed order before mid s →
     VoicePlays layout rows voice label look packed order before (ran each_one layout register_tree mid) s
-written layout rows voice label look packed order before mid s ground played = record {
+written layout rows voice label look packed order before mid s room uses voices played = record {
   ends = does.ends;
   at_voice = does.at_voice;
-  plays = playing_stays layout mid.at run.desk.at voice s variables ground.few played.plays;
+  plays = playing_stays layout mid.at run.desk.at voice s variables voices played.plays;
   song = in_song_stays layout label look packed order s.voice s.voice (own_at layout mid.at voice)
-      (own_at layout run.desk.at voice) refl (song_same layout mid.at run.desk.at voice variables ground.few)
+      (own_at layout run.desk.at voice) refl (song_same layout mid.at run.desk.at voice variables voices)
       played.song;
   none_lent = variables LENT (omega arith) ∙ played.none;
   sounds = does.sounds;
@@ -90,14 +89,14 @@ written layout rows voice label look packed order before mid s ground played = r
   registers = λ register few apart.
       does.leaves (0xD400 + register) (outside register apart) ∙ played.stays.registers register few;
   slides = λ kept row few plain.
-      let lists = ground.room.slides kept in
+      let lists = room.slides kept in
       let old = played.slides kept row few plain in record {
         low = slide_same layout rows row mid.at run.desk.at SLIDES_LOW below lists.low.to few ∙ old.low;
         high = slide_same layout rows row mid.at run.desk.at SLIDES_HIGH below lists.high.to few ∙ old.high;
       };
   elsewhere = λ place away.
       let apart = away.registers in
-      let three = ground.few in
+      let three = voices in
       does.leaves place (by_side place three apart) ∙ played.stays.elsewhere place away;
 }
   where
@@ -106,13 +105,13 @@ written layout rows voice label look packed order before mid s ground played = r
 
     does : Sounds voice mid run (voice_registers s.voice)
     does =
-        register_block_writes layout rows voice s mid ground.room ground.uses ground.few played.at_voice played.plays
+        register_block_writes layout rows voice s mid room uses voices played.at_voice played.plays
 
     below : SameBelow mid.at run.desk.at
     below place small = does.leaves place (inl (omega (arith, small)))
 
     variables : SameVariables layout mid.at run.desk.at
-    variables = variables_same layout rows mid.at run.desk.at ground.room below
+    variables = variables_same layout rows mid.at run.desk.at room below
 
     outside : (register : ℕ) → (register < 7 * voice) ⊎ (7 * voice + 7 ≤ register) →
         (0xD400 + register < registers_of voice) ⊎ (registers_of voice + 7 ≤ 0xD400 + register)

@@ -3,13 +3,15 @@ use Rattle.std.proofs.Common.{◌≡◌, ℕ, List, ap, ◌∙◌}
 use Rattle.song_model.specs.declared.orders.Order.{Order}
 use Rattle.song_model.specs.Walk.{played}
 use Rattle.play_model.specs.LookUps.{LookUps}
+use Rattle.song_facts.specs.declared.hold.Hold.{Hold}
+use Rattle.song_facts.specs.declared.hold.Hold.TheVariants.{Envelope, Gate}
 use Rattle.play_model.specs.State.{Voice}
 use Rattle.scopes.specs.Desk.{Layout}
-use Rattle.player_memory.specs.declared.labels.TheConstants.{GATE_TIMERS, ONE_TIMER}
+use Rattle.player_memory.specs.declared.labels.TheConstants.{GATE_TIMERS, ONE_TIMER, GATE_FROM, ENVELOPE_FROM}
 use Rattle.player_memory.specs.declared.variables.TheConstants.{SONG_BYTES}
 use Rattle.player_memory.specs.Playing.{AreSame}
 use Rattle.player_memory.specs.Fetching.{AreListed, IsPattern}
-use Rattle.fetch_code.specs.FetchBlock.{HasOrderlist, HasRows, next_instrument}
+use Rattle.fetch_code.specs.FetchBlock.{HasOrderlist, TellsHold, HasRows, next_instrument}
 use Rattle.player_memory.specs.Fetching.{IsInSong}
 use Rattle.fetch_code.proofs.Laws.{song_stays}
 use Rattle.voice_code.proofs.Lists.{ListsStay, listed_stays, alone_stays}
@@ -47,6 +49,15 @@ pattern_stays layout rows look one two number bytes stay is = record {
   reads_before = is.reads_before;
 }
 
+tells_stay : (layout : Layout) (rows : ℕ) (look : LookUps) (one two : ℕ → ℕ) (label : ℕ) (hold : Hold)
+    (instrument : ℕ) → ListsStay layout rows look one two → TellsHold layout rows one label look hold instrument →
+    TellsHold layout rows two label look hold instrument
+tells_stay layout rows look one two label hold instrument stay told = record {
+  from = told.from;
+  stands = alone_stays layout rows look one two label _ stay told.stands;
+  tells = told.tells;
+}
+
 pub rows_stay : (layout : Layout) (rows : ℕ) (look : LookUps) (one two : ℕ → ℕ) (packed : ℕ → List ℕ)
     (order : Order) (v : Voice) → ListsStay layout rows look one two → HasRows layout rows one look packed order v →
     HasRows layout rows two look packed order v
@@ -54,6 +65,8 @@ rows_stay layout rows look one two packed order v stay has = record {
   pattern = λ n. pattern_stays layout rows look one two (played order n).pattern _ stay (has.pattern n);
   timer = λ kept.
       listed_stays layout rows look one two GATE_TIMERS (next_instrument look order v) _ stay (has.timer kept);
+  gates = λ out kept. tells_stay layout rows look one two GATE_FROM Gate _ stay (has.gates out kept);
+  envelopes = λ out kept. tells_stay layout rows look one two ENVELOPE_FROM Envelope _ stay (has.envelopes out kept);
   one_timer = λ out. alone_stays layout rows look one two ONE_TIMER _ stay (has.one_timer out);
   timer_byte = has.timer_byte;
   tick = has.tick;

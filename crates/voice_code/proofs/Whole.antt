@@ -91,7 +91,7 @@ ends_with : (layout : Layout) (rows voice label : ℕ) (look : LookUps) (packed 
 ends_with layout rows voice label look packed order before mid s ground played comes =
     plays_there layout rows voice label look packed order before (ran each_one layout run_tree before)
     (ran each_one layout register_tree mid) s comes.way comes.desk_is
-    (written layout rows voice label look packed order before mid s ground played)
+    (written layout rows voice label look packed order before mid s ground.room ground.uses ground.few played)
 
 -- ---- up to the fetch
 
@@ -200,7 +200,8 @@ behind_fetch layout rows voice label o look packed order counts s desk start wai
     (voice_left_out layout tick_text effects_tree given_back_tree fetch_text pulse_tree register_tree desk f.after
     last.desk f.ways
     (here layout register_tree f.after Done
-    (written layout rows voice label look packed order desk f.after t start.ground f.played).ends)))
+    (written layout rows voice label look packed order desk f.after t start.ground.room start.ground.uses
+    start.ground.few f.played).ends)))
 behind_fetch layout rows voice label o look packed order counts s desk start waits false is f =
     let e = effected (voice + 1) o look s in
     let t = row_fetched look order e in
@@ -222,7 +223,8 @@ behind_fetch layout rows voice label o look packed order counts s desk start wai
     (voice_pulsed layout tick_text effects_tree given_back_tree fetch_text pulse_tree register_tree desk f.after run.desk
     last.desk f.ways (here layout pulse_tree f.after Done plays.but_slides.ends)
     (here layout register_tree run.desk Done
-    (written layout rows voice label look packed order desk run.desk u start.ground played).ends)))
+    (written layout rows voice label look packed order desk run.desk u start.ground.room start.ground.uses
+    start.ground.few played).ends)))
 
 -- ---- the whole
 
@@ -286,7 +288,8 @@ steps layout rows voice label o look packed order counts s desk start =
         (shed layout (ScopeTree TICKED tick_text) desk (Left SOUNDS) run.desk
         (here layout tick_tree desk (Left SOUNDS) (does.way ∙ ap way_of e)))
         (here layout register_tree run.desk Done
-        (written layout rows voice label look packed order desk run.desk t start.ground played).ends))))
+        (written layout rows voice label look packed order desk run.desk t start.ground.room start.ground.uses
+        start.ground.few played).ends))))
     by_start false e =
         subst (VoicePlays layout rows voice label look packed order desk (ran each_one layout run_tree desk))
         (sym (step_goes_on (voice + 1) o look order s e))
@@ -362,14 +365,11 @@ voice_block_plays layout rows voice label o look packed order counts s desk room
 
 -- a voice that isn't run has its registers written
 pub voice_block_rests : VoiceBlockRests
-voice_block_rests layout rows voice label look packed order s desk room uses few rests common at plays none song =
+voice_block_rests layout rows voice label look packed order s desk room uses few rests at plays none song =
     before_same layout rows voice label look packed order desk mid (ran each_one layout voice_tree desk) s told.memory
     (plays_there layout rows voice label look packed order mid (ran each_one layout voice_tree desk)
     (ran each_one layout register_tree mid) s comes.way comes.desk_is last)
   where
-    ground : Ground layout rows voice
-    ground = record { room = room; uses = uses; few = few; common = common }
-
     told : Told layout voice desk (Left SOUNDS)
     told = told_rests layout voice desk few at rests
 
@@ -379,7 +379,7 @@ voice_block_rests layout rows voice label look packed order s desk room uses few
     last : VoicePlays layout rows voice label look packed order mid (ran each_one layout register_tree mid) s
     last =
         (let same = sym told.memory in
-        written layout rows voice label look packed order mid mid s ground (record {
+        written layout rows voice label look packed order mid mid s room uses few (record {
           at_voice = told.at_voice;
           plays = subst (IsPlaying layout voice s) same plays;
           song = subst (λ memory. IsInSong layout label look packed order s.voice (own_at layout memory voice)) same song;

@@ -172,6 +172,6 @@ abbrev pub VoiceBlockRests : Type 0
 VoiceBlockRests =
     (layout : Layout) (rows voice label : ℕ) (look : LookUps) (packed : ℕ → List ℕ) (order : Order) (s : Playing)
     (desk : Desk) → IsRoom layout rows → MayUse layout rows → voice < 3 → is_run layout.holds voice ≡ false →
-    KeepsCommon layout → IsAtVoice voice desk → IsPlaying layout voice s desk.at → shared_at layout desk.at LENT ≡ 0 →
+    IsAtVoice voice desk → IsPlaying layout voice s desk.at → shared_at layout desk.at LENT ≡ 0 →
     IsInSong layout label look packed order s.voice (own_at layout desk.at voice) →
     VoicePlays layout rows voice label look packed order desk (ran each_one layout voice_tree desk) s
