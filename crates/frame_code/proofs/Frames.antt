@@ -70,7 +70,7 @@ abbrev VoiceRests : Tree → Type 0
 VoiceRests tree =
     (layout : Layout) (rows voice label : ℕ) (look : LookUps) (packed : ℕ → List ℕ) (order : Order) (s : Playing)
     (desk : Desk) → IsRoom layout rows → MayUse layout rows → voice < 3 → is_run layout.holds voice ≡ false →
-    KeepsCommon layout → IsAtVoice voice desk → IsPlaying layout voice s desk.at → shared_at layout desk.at LENT ≡ 0 →
+    IsAtVoice voice desk → IsPlaying layout voice s desk.at → shared_at layout desk.at LENT ≡ 0 →
     IsInSong layout label look packed order s.voice (own_at layout desk.at voice) →
     VoicePlays layout rows voice label look packed order desk (ran each_one layout tree desk) s
 
@@ -216,7 +216,7 @@ still_turns layout packed o k voice x at block desk rest start few rests at_voic
         (order_in packed k voice) desk (ran each_one layout block desk) s
     plays =
         rest layout (slide_rows packed) voice (order_label k voice) (look_of packed) (pattern_bytes packed)
-        (order_in packed k voice) s desk start.is_layout.room start.is_layout.uses few rests start.ready.common at_voice
+        (order_in packed k voice) s desk start.is_layout.room start.is_layout.uses few rests at_voice
         (behind.voices voice few).plays behind.none_lent (behind.voices voice few).song
 
 voice_turns : (layout : Layout) (packed : PackedSong) (o : Options) (k voice : ℕ) (x : FrameState) (at : ℕ → ℕ)

@@ -9,7 +9,7 @@ use Rattle.song_facts.specs.declared.facts.Fact.{Fact}
 use Rattle.song_facts.specs.declared.facts.Facts.{Facts}
 use Rattle.song_facts.specs.Facts.{HasSuchPair, is_among}
 use Rattle.song_facts.specs.declared.facts.Fact.TheVariants.{RowTone, RowSlide, RowOnce, FirstMask}
-use Rattle.song_facts.specs.declared.facts.Fact.TheVariants.{OwnTimer, Legato, NoHardRestart}
+use Rattle.song_facts.specs.declared.facts.Fact.TheVariants.{OwnTimer, Legato, NoHardRestart, FirstHolds}
 use Rattle.song_facts.specs.declared.facts.Fact.TheVariants.{NoteVibrato, VibratoDelay, NotePulse, NoteFilter}
 use Rattle.song_facts.specs.declared.facts.Fact.TheVariants.{VoiceTempo, CommonTempo, FunkTurns, FunkChoice}
 use Rattle.play_model.specs.Used.{IsUsedInstrument}
@@ -20,9 +20,10 @@ use Rattle.packed_form.specs.Unpacked.{unpacked_song}
 use Rattle.packed_form.specs.StandsFor.{StandsFor}
 use Rattle.scopes.specs.Desk.{Layout}
 use Rattle.player_memory.specs.Commands.{KeepsTempo}
-use Rattle.player_memory.specs.declared.conditions.TheConstants.{OWN_TIMER, HELD_NOTE}
-use Rattle.player_memory.specs.FactLines.{fact_condition, KeepsMarked, KeepsMarkedAlone, KeepsFacts, HoldsAlone}
-use Rattle.player_memory.specs.SongLists.{is_read}
+use Rattle.player_memory.specs.declared.conditions.TheConstants.{OWN_TIMER, FIRST_HOLDS, LEGATO}
+use Rattle.player_memory.specs.declared.conditions.TheConstants.{NO_HARD_RESTART}
+use Rattle.player_memory.specs.FactLines.{fact_condition, KeepsMarked, KeepsMarkedAlone, KeepsFacts}
+use Rattle.player_memory.specs.SongLists.{is_read, has_gate_from, has_envelope_from}
 use Rattle.tick_code.specs.TickBlock.{KeepsRow, KeepsInstrument}
 
 -- where those of all facts of the song that the packed song stands for are kept, those of the packed song's are
@@ -119,24 +120,28 @@ none_marked layout facts fact marked out =
     false_from_ne_true (is_among facts fact)
     (λ on. both_ways (layout.holds (fact_condition fact)) out (marked fact on))
 
--- the gateoff timers are read where two differ, and where one keeps the gate or the envelope
+-- the gateoff timers are read where two differ, and where the first instrument holds more than another
 pub timers_read : (layout : Layout) (packed : PackedSong) → KeepsMarkedAlone layout packed.facts →
     layout.holds OWN_TIMER ≡ true → is_read packed 7 ≡ true
 timers_read layout packed alone kept = rw (alone OwnTimer kept) refl
 
-pub held_read : (layout : Layout) (packed : PackedSong) → KeepsMarkedAlone layout packed.facts → HoldsAlone layout →
-    layout.holds HELD_NOTE ≡ true → is_read packed 7 ≡ true
-held_read layout packed alone held kept =
-    elim (held kept) [
-      | inl legato ↦ rw (alone Legato legato) (by_timer packed.facts.own_timer)
-      | inr soft ↦ rw (alone NoHardRestart soft) (by_both packed.facts.own_timer packed.facts.legato)
-    ]
+pub first_read : (layout : Layout) (packed : PackedSong) → KeepsMarkedAlone layout packed.facts →
+    layout.holds FIRST_HOLDS ≡ true → is_read packed 7 ≡ true
+first_read layout packed alone kept = rw (alone FirstHolds kept) (by_timer packed.facts.own_timer)
   where
-    by_timer : (timer : Bool) → (timer || true || packed.facts.no_hard_restart) ≡ true
+    by_timer : (timer : Bool) → (timer || true) ≡ true
     by_timer true = refl
     by_timer false = refl
 
-    by_both : (timer legato : Bool) → (timer || legato || true) ≡ true
-    by_both true legato = refl
-    by_both false true = refl
-    by_both false false = refl
+-- else the numbers stand from which on instruments hold the gate, and the envelope
+pub gates_stand : (layout : Layout) (packed : PackedSong) → KeepsMarked layout packed.facts →
+    KeepsMarkedAlone layout packed.facts → layout.holds FIRST_HOLDS ≡ false → layout.holds LEGATO ≡ true →
+    has_gate_from packed ≡ true
+gates_stand layout packed marked alone out kept =
+    rw (alone Legato kept, none_marked layout packed.facts FirstHolds marked out) refl
+
+pub envelopes_stand : (layout : Layout) (packed : PackedSong) → KeepsMarked layout packed.facts →
+    KeepsMarkedAlone layout packed.facts → layout.holds FIRST_HOLDS ≡ false → layout.holds NO_HARD_RESTART ≡ true →
+    has_envelope_from packed ≡ true
+envelopes_stand layout packed marked alone out kept =
+    rw (alone NoHardRestart kept, none_marked layout packed.facts FirstHolds marked out) refl

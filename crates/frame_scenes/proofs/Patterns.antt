@@ -12,7 +12,8 @@ use Rattle.song_model.specs.LookUp.{pattern_at, zero_row, IsNumbered}
 use Rattle.song_model.specs.Walk.{played}
 use Rattle.song_model.proofs.Laws.{plays_are_patterns_lem}
 use Rattle.song_facts.specs.declared.facts.Fact.TheVariants.{RowTone, Legato, NoHardRestart, GateNote}
-use Rattle.song_facts.specs.declared.facts.Fact.TheVariants.{OwnTimer}
+use Rattle.song_facts.specs.declared.facts.Fact.TheVariants.{OwnTimer, FirstHolds}
+use Rattle.song_facts.specs.declared.hold.Hold.TheVariants.{Envelope, Gate}
 use Rattle.song_facts.specs.Facts.{timer_of}
 use Rattle.play_model.specs.declared.options.Options.{Options}
 use Rattle.play_model.specs.State.{Voice, FrameState, Playing}
@@ -23,9 +24,12 @@ use Rattle.packed_form.specs.declared.packed_songs.PackedSong.{PackedSong}
 use Rattle.packed_form.specs.PackedSpells.{PackedSpells}
 use Rattle.packed_form.specs.Unpacked.{unpacked_instrument, unpacked_pattern, unpacked_song}
 use Rattle.packed_form.specs.StandsFor.{StandsFor}
+use Rattle.packed_form.specs.Holders.{AreInOrder, first_holder}
+use Rattle.packed_form.proofs.Laws.{holders_stand_last}
 use Rattle.scopes.specs.Desk.{Layout}
-use Rattle.player_memory.specs.declared.conditions.TheConstants.{OWN_TIMER}
+use Rattle.player_memory.specs.declared.conditions.TheConstants.{OWN_TIMER, FIRST_HOLDS}
 use Rattle.player_memory.specs.SongLists.{PatternLows, PatternHighs, PatternBytes, Instruments, OneTimer}
+use Rattle.player_memory.specs.SongLists.{GateFrom, EnvelopeFrom}
 use Rattle.player_memory.specs.SongLists.{pattern_bytes}
 use Rattle.player_memory.specs.SongLists.{slide_rows}
 use Rattle.player_memory.specs.FactLines.{KeepsFacts, KeepsShared}
@@ -34,7 +38,8 @@ use Rattle.player_memory.specs.Holds.{look_of, order_in, PatternStands}
 use Rattle.fetch_code.specs.FetchBlock.{HasRows, KeepsNext, next_instrument, next_row}
 use Rattle.frame_scenes.specs.FrameScenes.{Scene}
 use Rattle.kept_notes.specs.Voices.{IsUsedTimer}
-use Rattle.frame_scenes.proofs.FactsKept.{held_read, none_marked, no_two_differ}
+use Rattle.frame_scenes.proofs.FactsKept.{first_read, gates_stand, envelopes_stand, none_marked}
+use Rattle.frame_scenes.proofs.FactsKept.{no_two_differ}
 use Rattle.frame_scenes.proofs.Lists.{from_one, from_none, looks, stands_alone}
 use Rattle.frame_scenes.proofs.Turns.{AtTurn, IsFine, scene_facts}
 use Rattle.frame_scenes.proofs.Orders.{IsPlayedAndShort, order_played}
@@ -157,8 +162,22 @@ rows_stand layout packed song o k voice x at s turn fine its_timer = record {
       pattern_stands layout packed song o k x at (played order n).pattern scene
       (play_stored packed song order n scene.stands is.played is.endless);
   timer = λ kept.
-      scene.has.lists (Instruments 7) _ (held_read layout packed scene.alone scene.held kept)
+      scene.has.lists (Instruments 7) _ (first_read layout packed scene.alone kept)
       (from_one packed (Instruments 7) _ refl numbered.first numbered.last);
+  gates = λ out kept. record {
+    from = first_holder packed Gate;
+    stands =
+        stands_alone layout packed at GateFrom _ scene.has
+        (gates_stand layout packed scene.facts scene.alone out kept) refl refl scene.laid.gates refl;
+    tells = holders_stand_last packed Gate _ (ordered out) stored;
+  };
+  envelopes = λ out kept. record {
+    from = first_holder packed Envelope;
+    stands =
+        stands_alone layout packed at EnvelopeFrom _ scene.has
+        (envelopes_stand layout packed scene.facts scene.alone out kept) refl refl scene.laid.envelopes refl;
+    tells = holders_stand_last packed Envelope _ (ordered out) stored;
+  };
   one_timer = λ out.
       stands_alone layout packed at OneTimer _ scene.has
       (none_marked layout packed.facts OwnTimer scene.facts out) refl refl scene.laid.timer
@@ -188,3 +207,10 @@ rows_stand layout packed song o k voice x at s turn fine its_timer = record {
 
     numbered : IsNumbered packed.instruments (next_instrument (look_of packed) order s.voice)
     numbered = instrument_stored packed song _ scene.stands instrument
+
+    stored : IsNumbered (unpacked_song packed).instruments (next_instrument (look_of packed) order s.voice)
+    stored = scene.stands.complete.instruments _ instrument
+
+    -- where the lines for a first that holds more aren't kept, the instruments are in order
+    ordered : layout.holds FIRST_HOLDS ≡ false → AreInOrder packed.instruments
+    ordered out = scene.stands.order (none_marked layout packed.facts FirstHolds scene.facts out)

@@ -13,7 +13,7 @@ use Rattle.packed_form.specs.declared.packed_songs.PackedSong.{PackedSong}
 use Rattle.packed_form.specs.Unpacked.{unpacked_song, packed_state}
 use Rattle.packed_form.specs.StandsFor.{StandsFor}
 use Rattle.scopes.specs.Desk.{Layout}
-use Rattle.player_memory.specs.FactLines.{KeepsMarked, KeepsMarkedAlone, KeepsShared, HoldsAlone}
+use Rattle.player_memory.specs.FactLines.{KeepsMarked, KeepsMarkedAlone, KeepsShared}
 use Rattle.player_memory.specs.SongLists.{HasSongLists}
 use Rattle.player_memory.specs.Holds.{IsPlayerLayout}
 use Rattle.slide_code.specs.SlideBlock.{KeepsCommon}
@@ -25,10 +25,10 @@ use Rattle.frame_scenes.proofs.Frames.{frames_are_ready}
 pub packed_scene : (layout : Layout) (packed : PackedSong) (song : Song) (o : Options) (k i : ℕ) (at : ℕ → ℕ) →
     StandsFor packed song → KeepsPatternLimits packed → IsPlayerLayout layout packed → HasSongLists layout packed at →
     ((feature : Feature) → IsBitSet packed.features.0 (bit_of feature) → layout.holds (bit_of feature) ≡ true) →
-    KeepsMarked layout packed.facts → KeepsMarkedAlone layout packed.facts → KeepsShared layout → HoldsAlone layout →
+    KeepsMarked layout packed.facts → KeepsMarkedAlone layout packed.facts → KeepsShared layout →
     KeepsOptions layout o → KeepsCommon layout → k < length packed.subtunes → IsSpeed o.speed →
     Scene layout packed song o k (packed_state packed k o i) at
-packed_scene layout packed song o k i at stands short laid has kept facts alone shared held options common below speed =
+packed_scene layout packed song o k i at stands short laid has kept facts alone shared options common below speed =
     record {
       stands = stands;
       short = short;
@@ -40,7 +40,6 @@ packed_scene layout packed song o k i at stands short laid has kept facts alone 
       facts = facts;
       alone = alone;
       shared = shared;
-      held = held;
       options = options;
       common = common;
       below = below;
@@ -57,8 +56,8 @@ packed_scene layout packed song o k i at stands short laid has kept facts alone 
     }
 
 pub packed_frames_are_ready : PackedFramesAreReady
-packed_frames_are_ready layout packed song o k i at stands short laid has kept facts alone shared held options common
+packed_frames_are_ready layout packed song o k i at stands short laid has kept facts alone shared options common
     below speed =
     frames_are_ready layout packed song o k (packed_state packed k o i) at
-    (packed_scene layout packed song o k i at stands short laid has kept facts alone shared held options common below
+    (packed_scene layout packed song o k i at stands short laid has kept facts alone shared options common below
     speed)

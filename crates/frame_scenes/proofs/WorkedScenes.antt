@@ -39,6 +39,7 @@ no_note note e (inr high) = let from = high.0 in omega (arith, e, from)
 pub none_are_scenes : NoneAreScenes
 none_are_scenes layout packed song o k x at = record {
   stands = λ other scene. other scene.stands.subtunes;
+  order = λ none fall scene. fall (scene.stands.order none);
   short = λ has scene. too_long packed scene.short has;
   laid = λ e scene. let least = scene.laid.room.pointer_low in omega (arith, e, least);
   has = λ n inside other scene.
@@ -47,11 +48,6 @@ none_are_scenes layout packed song o k x at = record {
   used = λ some out scene. true≢false (sym (scene.used FilterTable some) ∙ out);
   facts = λ has out scene. true≢false (sym (scene.facts GateNote has) ∙ out);
   alone = λ none on scene. true≢false (sym (scene.alone GateNote on) ∙ none);
-  held = λ on gate envelope scene.
-      elim (scene.held on) [
-        | inl legato ↦ true≢false (sym legato ∙ gate)
-        | inr soft ↦ true≢false (sym soft ∙ envelope)
-      ];
   shared = λ on out scene. true≢false (sym (scene.shared.once on) ∙ out);
   options = λ on out scene. true≢false (sym on ∙ (sym scene.options.pulse ∙ out));
   common = λ on out scene. true≢false (sym (scene.common.rise (rw on refl)) ∙ out);

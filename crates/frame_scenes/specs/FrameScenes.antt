@@ -15,7 +15,7 @@ use Rattle.packed_form.specs.declared.packed_songs.PackedSong.{PackedSong}
 use Rattle.packed_form.specs.Unpacked.{unpacked_song, packed_state}
 use Rattle.packed_form.specs.StandsFor.{StandsFor}
 use Rattle.scopes.specs.Desk.{Layout}
-use Rattle.player_memory.specs.FactLines.{KeepsMarked, KeepsMarkedAlone, KeepsShared, HoldsAlone}
+use Rattle.player_memory.specs.FactLines.{KeepsMarked, KeepsMarkedAlone, KeepsShared}
 use Rattle.player_memory.specs.SongLists.{HasSongLists}
 use Rattle.player_memory.specs.Holds.{IsPlayerLayout, KeepsUsed}
 use Rattle.slide_code.specs.SlideBlock.{KeepsCommon}
@@ -28,9 +28,8 @@ KeepsPatternLimits packed = (pattern : List ℕ) → Contains packed.patterns pa
 
 -- The packed song stands for a song, and its lists stand in memory. The state is one that a song may come to in this
 -- subtune; its voices have notes and gateoff timers of the song, and are mute where their channel has nothing to play.
--- The lines are kept of each feature that the frame
--- uses, of each fact of the packed song and of no other fact, of what features and facts have in common, and of each
--- option that is on; those of instruments that leave something as it is before a note, only for one of these.
+-- The lines are kept of each feature that the frame uses, of each fact of the packed song and of no other fact, of what
+-- features and facts have in common, and of each option that is on.
 pub record Scene (layout : Layout) (packed : PackedSong) (song : Song) (o : Options) (k : ℕ) (x : FrameState)
     (at : ℕ → ℕ) : Type 0 where
   pub stands : StandsFor packed song
@@ -41,7 +40,6 @@ pub record Scene (layout : Layout) (packed : PackedSong) (song : Song) (o : Opti
   pub facts : KeepsMarked layout packed.facts
   pub alone : KeepsMarkedAlone layout packed.facts
   pub shared : KeepsShared layout
-  pub held : HoldsAlone layout
   pub options : KeepsOptions layout o
   pub common : KeepsCommon layout
   pub below : k < length packed.subtunes
@@ -63,6 +61,6 @@ PackedFramesAreReady =
     (layout : Layout) (packed : PackedSong) (song : Song) (o : Options) (k i : ℕ) (at : ℕ → ℕ) →
     StandsFor packed song → KeepsPatternLimits packed → IsPlayerLayout layout packed → HasSongLists layout packed at →
     ((feature : Feature) → IsBitSet packed.features.0 (bit_of feature) → layout.holds (bit_of feature) ≡ true) →
-    KeepsMarked layout packed.facts → KeepsMarkedAlone layout packed.facts → KeepsShared layout → HoldsAlone layout →
+    KeepsMarked layout packed.facts → KeepsMarkedAlone layout packed.facts → KeepsShared layout →
     KeepsOptions layout o → KeepsCommon layout → k < length packed.subtunes → IsSpeed o.speed →
     FrameIsReady layout packed o k (packed_state packed k o i) at

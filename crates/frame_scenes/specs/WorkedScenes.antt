@@ -12,10 +12,10 @@ use Rattle.kept_notes.specs.Voices.{IsUsedTimer}
 use Rattle.silent_voices.specs.Mute.{IsSilentChannel}
 use Rattle.packed_form.specs.declared.packed_songs.PackedSong.{PackedSong}
 use Rattle.packed_form.specs.Unpacked.{unpacked_song}
+use Rattle.packed_form.specs.Holders.{AreInOrder}
 use Rattle.scopes.specs.Desk.{Layout}
 use Rattle.player_memory.specs.declared.conditions.TheConstants.{FILTER_TABLE, PORTA_UP, RISE, SKIP_PULSE}
 use Rattle.player_memory.specs.declared.conditions.TheConstants.{ROW_ONCE, GATE_NOTE, ROW_COMMAND}
-use Rattle.player_memory.specs.declared.conditions.TheConstants.{HELD_NOTE, LEGATO, NO_HARD_RESTART}
 use Rattle.player_memory.specs.declared.labels.TheConstants.{FREQUENCY_LOWS}
 use Rattle.player_memory.specs.Playing.{place_in}
 use Rattle.frame_scenes.specs.FrameScenes.{KeepsPatternLimits, Scene}
@@ -25,17 +25,18 @@ pub record PatternLimitsAreWorked (packed : PackedSong) : Type 0 where
   pub longest : KeepsPatternLimits (record packed { patterns = replicate 256 0xBD ∷ [] })
   pub longer : ¬ KeepsPatternLimits (record packed { patterns = replicate 257 0xBD ∷ [] })
 
--- It is no scene where the song plays more subtunes than the packed song has, or fewer; where a packed pattern has 257
--- bytes; where the pointer stands at the processor's port; where the frequency of a number that the song asks for isn't
--- in its list; where the filter has a program, or the pulse step is to be left out, or a frequency is slid up, or an
--- orderlist's pattern has a keyoff, or rows have a command, and the lines for that aren't kept; where those for a
--- keyoff are, and the song has none, or those of what an instrument leaves as it is, for none that does; behind the last
--- subtune; where a note sounds that no song comes to, or a voice's last number is none of this song, or the gateoff
--- timer, which isn't 0, is none of it; where the second voice has an envelope, and its channel nothing to play; and where
--- a frequency is no word.
+-- It is no scene where the song plays more subtunes than the packed song has, or fewer; where instruments don't stand
+-- in the order of what they hold before their notes, and the first holds no more than another; where a packed pattern
+-- has 257 bytes; where the pointer stands at the processor's port; where the frequency of a number that the song asks
+-- for isn't in its list; where the filter has a program, or the pulse step is to be left out, or a frequency is slid
+-- up, or an orderlist's pattern has a keyoff, or rows have a command, and the lines for that aren't kept; where those
+-- for a keyoff are, and the song has none; behind the last subtune; where a note sounds that no song comes to, or a
+-- voice's last number is none of this song, or the gateoff timer, which isn't 0, is none of it; where the second voice
+-- has an envelope, and its channel nothing to play; and where a frequency is no word.
 pub record NoScenesAreWorked (layout : Layout) (packed : PackedSong) (song : Song) (o : Options) (k : ℕ)
     (x : FrameState) (at : ℕ → ℕ) : Type 0 where
   pub stands : length packed.subtunes ≢ length (playable_subtunes song) → ¬ Scene layout packed song o k x at
+  pub order : packed.facts.first_holds ≡ false → ¬ AreInOrder packed.instruments → ¬ Scene layout packed song o k x at
   pub short : Contains packed.patterns (replicate 257 0xBD) → ¬ Scene layout packed song o k x at
   pub laid : layout.pointer ≡ 1 → ¬ Scene layout packed song o k x at
   pub has : (n : ℕ) → IsInRange packed.numbers n → at (place_in layout FREQUENCY_LOWS n) ≢ freq n % 256 →
@@ -44,8 +45,6 @@ pub record NoScenesAreWorked (layout : Layout) (packed : PackedSong) (song : Son
   pub facts : packed.facts.gate_note ≡ true → layout.holds GATE_NOTE ≡ false → ¬ Scene layout packed song o k x at
   pub alone : packed.facts.gate_note ≡ false → layout.holds GATE_NOTE ≡ true → ¬ Scene layout packed song o k x at
   pub shared : layout.holds ROW_ONCE ≡ true → layout.holds ROW_COMMAND ≡ false → ¬ Scene layout packed song o k x at
-  pub held : layout.holds HELD_NOTE ≡ true → layout.holds LEGATO ≡ false → layout.holds NO_HARD_RESTART ≡ false →
-      ¬ Scene layout packed song o k x at
   pub options : o.skip_pulse ≡ true → layout.holds SKIP_PULSE ≡ false → ¬ Scene layout packed song o k x at
   pub common : layout.holds PORTA_UP ≡ true → layout.holds RISE ≡ false → ¬ Scene layout packed song o k x at
   pub below : length packed.subtunes ≤ k → ¬ Scene layout packed song o k x at
