@@ -71,12 +71,12 @@ around_most holds part variables filter voice init few =
     omega (arith, a, b, c, d, e, f, n, front, m, l, k, x, y, z)
 
 -- the numbers, computed
-few_of : (start : Start) (cleared part : ℕ) → part < 60 →
+few_of : (start : Start) (cleared part : ℕ) → part < 61 →
     most_around part filter_tree voice_tree (init_tree start cleared) ≤ 320
 few_of start cleared part low =
     leb-true _ 320
     (agree_below_at (λ n. nat_le (most_around n filter_tree voice_tree (init_tree start cleared)) 320) (λ n. true)
-    60 part refl low)
+    61 part refl low)
 
 rest_of : (start : Start) (cleared : ℕ) →
     most_around always filter_tree voice_tree (init_tree start cleared) ≤ 3070
@@ -100,7 +100,7 @@ no_more_than n m a b = omega (arith, a, b)
 
 pub parts_are_short : PartsAreShort
 parts_are_short asked o = record {
-  parts = λ part other. elim (cases_lt part 60) [
+  parts = λ part other. elim (cases_lt part 61) [
     | inl low ↦
         rw (ne_eqb part always other)
         (no_more_than _ _ (code_most asked o part) (few_of (start_of o) (cleared_by asked o) part low))
@@ -128,7 +128,7 @@ code_is_short asked o =
     bounds _ _ _ _ _ (code_takes_its_parts asked o) (counts_are_few holds).1 (are_measured.filter.takes_most holds)
     (are_measured.voice.takes_most holds) ((are_measured.init (start_of o) (cleared_by asked o)).takes_most holds)
   where
-    bounds : (all n f v i : ℕ) → all ≡ 22 + n + f + v + i → n ≤ 113 → f ≤ 102 → v ≤ 1336 → i ≤ 92 → all + 2 ≤ 1667
+    bounds : (all n f v i : ℕ) → all ≡ 22 + n + f + v + i → n ≤ 113 → f ≤ 102 → v ≤ 1338 → i ≤ 92 → all + 2 ≤ 1669
     bounds all n f v i e few one two three = omega (arith, e, few, one, two, three)
 
 frequencies_most : (range : NumberRange) (size : ℕ) → range.first + range.count ≤ 129 → frequency_bytes range size ≤ 258
@@ -142,8 +142,8 @@ code_is_bounded asked features rows size range o few low =
     within _ _ _ _ (kept_parts features o) (shared_most asked) (slides_most asked rows few)
     (frequencies_most range size low) (code_is_short asked o)
   where
-    within : (shared slides frequencies code kept : ℕ) → shared ≤ 2 → slides ≤ 768 → frequencies ≤ 258 →
-        code ≤ 1667 → shared + slides + frequencies + code ≤ 3072 + 320 * kept
+    within : (shared slides frequencies code kept : ℕ) → shared ≤ 4 → slides ≤ 768 → frequencies ≤ 258 →
+        code ≤ 1669 → shared + slides + frequencies + code ≤ 3072 + 320 * kept
     within shared slides frequencies code kept a b c d = omega (arith, a, b, c, d)
 
 pub images_are_bounded : ImagesAreBounded

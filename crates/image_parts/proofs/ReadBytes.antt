@@ -1,11 +1,12 @@
 -- What is read of a packed song, by what it asks for and by its facts.
 use Rattle.std.specs.Prelude.{sum_by}
-use Rattle.std.proofs.Common.{◌≡◌, ℕ, ◌+◌, ◌-◌, ◌*◌, ◌≤◌, Bool, true, false, ◌||◌, length, if◌then◌else◌, refl, ap}
-use Rattle.std.proofs.Common.{arith}
+use Rattle.std.proofs.Common.{◌≡◌, ℕ, ◌+◌, ◌-◌, ◌*◌, ◌≤◌, Bool, true, false, not, ◌&&◌, ◌||◌, length}
+use Rattle.std.proofs.Common.{if◌then◌else◌, refl, ap, arith}
 use Rattle.packed_form.specs.declared.packed_songs.PackedSong.{PackedSong}
 use Rattle.packed_form.specs.Sizes.{list_size, subtune_size, packed_song_size}
 use Rattle.player_memory.specs.declared.conditions.TheConstants.{NOTE_PULSE, NOTE_FILTER, NOTE_VIBRATO, VIBRATO_DELAY}
 use Rattle.player_memory.specs.declared.conditions.TheConstants.{LEGATO, NO_HARD_RESTART, OWN_TIMER, OWN_WAVE, SUBTUNES}
+use Rattle.player_memory.specs.declared.conditions.TheConstants.{FIRST_HOLDS}
 use Rattle.player_memory.specs.SongLists.{unread, unread_size, unlisted_size, shared_size, bytes_read, bytes_in_front}
 use Rattle.player_memory.proofs.Laws.{unread_few, unlisted_few, subtunes_are_large}
 use Rattle.kept_lines.specs.Asked.{is_in, asked_by}
@@ -20,7 +21,7 @@ unread_most asked instruments =
     let filter = at_most (is_in asked NOTE_FILTER) in
     let vibrato = at_most (is_in asked NOTE_VIBRATO) in
     let delay = at_most (is_in asked VIBRATO_DELAY) in
-    let timer = at_most (is_in asked OWN_TIMER || is_in asked LEGATO || is_in asked NO_HARD_RESTART) in
+    let timer = at_most (is_in asked OWN_TIMER || is_in asked FIRST_HOLDS) in
     let wave = at_most (is_in asked OWN_WAVE) in
     omega arith
   where
@@ -28,18 +29,24 @@ unread_most asked instruments =
     at_most true = omega arith
     at_most false = omega arith
 
--- and two at most stand alone for all of them
-pub shared_most : (asked : ℕ) → shared_bytes asked ≤ 2
+-- and four at most stand alone for all of them
+pub shared_most : (asked : ℕ) → shared_bytes asked ≤ 4
 shared_most asked =
     let timer = at_most (is_in asked OWN_TIMER) in
     let wave = at_most (is_in asked OWN_WAVE) in
+    let gates = one_at_most (is_in asked LEGATO && not (is_in asked FIRST_HOLDS)) in
+    let envelopes = one_at_most (is_in asked NO_HARD_RESTART && not (is_in asked FIRST_HOLDS)) in
     omega arith
   where
     at_most : (z : Bool) → (if z then 0 else 1) ≤ 1
     at_most true = omega arith
     at_most false = omega arith
 
--- a field isn't read exactly where the song doesn't ask for its condition, or for none of three
+    one_at_most : (z : Bool) → (if z then 1 else 0) ≤ 1
+    one_at_most true = omega arith
+    one_at_most false = omega arith
+
+-- a field isn't read exactly where the song doesn't ask for its condition, or for neither of two
 pub unread_is : (packed : PackedSong) → unread_bytes (asked_by packed) (length packed.instruments) ≡ unread_size packed
 unread_is packed =
     let exact = asked_is_exact packed.features.0 packed.facts in
@@ -48,7 +55,7 @@ unread_is packed =
     let vibrato : unread_of (asked_by packed) NOTE_VIBRATO count ≡ unread packed 5 = ap if_not (exact NOTE_VIBRATO) in
     let delay : unread_of (asked_by packed) VIBRATO_DELAY count ≡ unread packed 6 = ap if_not (exact VIBRATO_DELAY) in
     let timer : unread_timers (asked_by packed) count ≡ unread packed 7 =
-    if_none (exact OWN_TIMER) (exact LEGATO) (exact NO_HARD_RESTART) in
+    if_none (exact OWN_TIMER) (exact FIRST_HOLDS) in
     let wave : unread_of (asked_by packed) OWN_WAVE count ≡ unread packed 8 = ap if_not (exact OWN_WAVE) in
     omega arith
   where
@@ -58,18 +65,26 @@ unread_is packed =
     if_not : Bool → ℕ
     if_not read = if read then 0 else length packed.instruments
 
-    if_none : {a b c x y z : Bool} → a ≡ x → b ≡ y → c ≡ z → if_not (a || b || c) ≡ if_not (x || y || z)
-    if_none e f g = rw (e, f, g) refl
+    if_none : {a b x y : Bool} → a ≡ x → b ≡ y → if_not (a || b) ≡ if_not (x || y)
+    if_none e f = rw (e, f) refl
 
 pub shared_is : (packed : PackedSong) → shared_bytes (asked_by packed) ≡ shared_size packed
 shared_is packed =
     let exact = asked_is_exact packed.features.0 packed.facts in
     let timer = ap if_not (exact OWN_TIMER) in
     let wave = ap if_not (exact OWN_WAVE) in
-    omega (arith, timer, wave)
+    let gates = if_in_order (exact LEGATO) (exact FIRST_HOLDS) in
+    let envelopes = if_in_order (exact NO_HARD_RESTART) (exact FIRST_HOLDS) in
+    omega (arith, timer, wave, gates, envelopes)
   where
     if_not : Bool → ℕ
     if_not own = if own then 0 else 1
+
+    number : Bool → Bool → ℕ
+    number held more = if held && not more then 1 else 0
+
+    if_in_order : {a b x y : Bool} → a ≡ x → b ≡ y → number a b ≡ number x y
+    if_in_order e f = rw (e, f) refl
 
 pub unlisted_is : (packed : PackedSong) →
     unlisted_bytes (asked_by packed) (length packed.subtunes) ≡ unlisted_size packed

@@ -89,30 +89,30 @@ kept_is asked o =
     all_around holds (variable_count holds) filter_tree voice_tree
     (init_tree (start_of o) (cleared_of (variable_count holds)))
 
--- a condition that holds is one of 60
-few_hold : (asked : ℕ) (o : Options) (part : ℕ) → holds_in (kept_set asked o) part ≡ true → part < 60
-few_hold asked o part holds = elim (cases_lt part 60) [
+-- a condition that holds is one of 61
+few_hold : (asked : ℕ) (o : Options) (part : ℕ) → holds_in (kept_set asked o) part ≡ true → part < 61
+few_hold asked o part holds = elim (cases_lt part 61) [
   | inl low ↦ low
   | inr high ↦
       absurd (true≢false (sym holds ∙ sets_are_exact asked o part ∙ no_more asked o part high))
 ]
 
-pub all_are_parts : (asked : ℕ) (o : Options) → All (IsPart always 60) (code_parts asked o)
+pub all_are_parts : (asked : ℕ) (o : Options) → All (IsPart always 61) (code_parts asked o)
 all_are_parts asked o =
-    All-weaker (IsKept (holds_in (kept_set asked o))) (IsPart always 60) weaker (code_parts asked o)
+    All-weaker (IsKept (holds_in (kept_set asked o))) (IsPart always 61) weaker (code_parts asked o)
     (kept_is asked o)
   where
-    weaker : (part : ℕ) → IsKept (holds_in (kept_set asked o)) part → IsPart always 60 part
+    weaker : (part : ℕ) → IsKept (holds_in (kept_set asked o)) part → IsPart always 61 part
     weaker part (inl is) = inl is
     weaker part (inr holds) = inr (few_hold asked o part holds)
 
 -- ---- sums
 
-sum_of_all : (number : ℕ → ℕ) → sum_by number (range_with_len 0 60) ≡ below number 60
+sum_of_all : (number : ℕ → ℕ) → sum_by number (range_with_len 0 61) ≡ below number 61
 sum_of_all number = omega arith
 
 -- a part below the last one is counted without the zeros
-own_bytes : (code : List ℕ) (part : ℕ) → part < 60 →
+own_bytes : (code : List ℕ) (part : ℕ) → part < 61 →
     bytes_of part code ≡ bytes_of part code + (if part == always then 2 else 0)
 own_bytes code part few =
     rw (ne_eqb part always (λ is. omega (arith, few, is))) (plain (bytes_of part code))
@@ -123,8 +123,8 @@ own_bytes code part few =
 pub parts_add_up : PartsAddUp
 parts_add_up asked o =
     let code = code_parts asked o in
-    let all = counted always 60 (omega arith) code (all_are_parts asked o) in
-    let same = below_same (λ part. bytes_of part code) (part_length asked o) 60 (own_bytes code) in
+    let all = counted always 61 (omega arith) code (all_are_parts asked o) in
+    let same = below_same (λ part. bytes_of part code) (part_length asked o) 61 (own_bytes code) in
     let sum = sum_of_all (part_length asked o) in
     add (length code) (bytes_of always code) _ _ _ all same sum
   where

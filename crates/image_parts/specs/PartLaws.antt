@@ -23,11 +23,11 @@ CodeTakesItsParts =
     length (code_parts asked o)
     ≡ code_takes (holds_in (kept_set asked o)) (start_of o) (variable_count (holds_in (kept_set asked o)))
 
--- the code is the part that each image has and the 60 others
+-- the code is the part that each image has and the 61 others
 abbrev pub PartsAddUp : Type 0
 PartsAddUp =
     (asked : ℕ) (o : Options) →
-    code_length asked o ≡ part_length asked o always + sum_by (part_length asked o) (range_with_len 0 60)
+    code_length asked o ≡ part_length asked o always + sum_by (part_length asked o) (range_with_len 0 61)
 
 -- a part whose condition doesn't hold has no bytes
 abbrev pub UnkeptPartsHaveNone : Type 0
@@ -70,9 +70,10 @@ pub record RestIsWithin (asked : ℕ) (o : Options) : Type 0 where
 abbrev pub RestIsBounded : Type 0
 RestIsBounded = (asked : ℕ) (o : Options) → RestIsWithin asked o
 
--- the code with the zeros takes at most what it does where all parts are kept
+-- the code with the zeros takes at most what it does where all parts are kept but that for a first instrument that
+-- holds more before its notes than another: in its place stand two bytes more
 abbrev pub CodeIsShort : Type 0
-CodeIsShort = (asked : ℕ) (o : Options) → code_length asked o ≤ 1667
+CodeIsShort = (asked : ℕ) (o : Options) → code_length asked o ≤ 1669
 
 -- an image is within the bound of a packed song and its player: the code with what stands alone for all instruments,
 -- with the slides, of 255 rows at most, and with the frequencies, up to that of number 128 at most, is within the

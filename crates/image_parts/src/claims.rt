@@ -17,7 +17,7 @@ pub fn parts_add_up()
 
 /// A part that isn't kept has no bytes, no other one has more than 320, and the one that every image has no more than
 /// 3,072: it has 376, those of the variables, and what stands in the place of lines that aren't kept, which makes 443
-/// to 496. The code has at most 1,667 with the zeros; and an image is within the bound of its packed song and a player.
+/// to 502. The code has at most 1,669 with the zeros; and an image is within the bound of its packed song and a player.
 pub fn parts_are_bounded()
     ensures none { UnkeptPartsHaveNone }
     ensures short { PartsAreShort }

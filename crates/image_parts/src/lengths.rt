@@ -69,7 +69,7 @@ pub fn slide_bytes(asked: Conditions, rows: u32) -> u32
 /// instruments come in.
 pub fn read_size(packed: &PackedSong) -> u32
     ensures bytes { result ≡ read_of packed.now }
-    ensures most { result ≤ 81041 }
+    ensures most { result ≤ 81043 }
 {
     bytes_read(packed)
 }

@@ -69,7 +69,7 @@ fn parts_around(
     Ok(list)
 }
 
-/// The part of each byte of an image's code, in order, for what a song asks for and for options: a condition, 0 to 59,
+/// The part of each byte of an image's code, in order, for what a song asks for and for options: a condition, 0 to 60,
 /// or 255.
 ///
 /// # Errors

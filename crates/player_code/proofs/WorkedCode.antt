@@ -1,7 +1,7 @@
 -- The worked plans.
 use Rattle.std.proofs.Common.{◌≡◌, ℕ, zero, suc, ◌+◌, ◌<◌, ◌≤◌, ◌&&◌, ◌||◌, Bool, true, false, List}
 use Rattle.std.proofs.Common.{[], ◌∷◌}
-use Rattle.std.proofs.Common.{length, replicate, All, ◌==◌, ◌-◌, nat_le, refl, ap, subst, arith, inl, inr}
+use Rattle.std.proofs.Common.{length, replicate, All, not, ◌==◌, ◌-◌, nat_le, refl, ap, subst, arith, inl, inr}
 use Rattle.std.proofs.lemmas.List.{length-replicate}
 use Rattle.std.proofs.lemmas.Bool.{or_cases, and_parts, leb-true, eqb-true}
 use Rattle.std.proofs.lemmas.List.Elements.{All-nil, All-cons, All-head}
@@ -12,15 +12,20 @@ use Rattle.asm6502.specs.declared.lines.Item.TheVariants.{Label}
 use Rattle.asm6502.specs.declared.lines.Line.{Line}
 use Rattle.asm6502.specs.Stretches.{IsNamedAlways}
 use Rattle.scope_lines.specs.Instructions.{code}
+use Rattle.scope_lines.specs.Sizes.{size}
 use Rattle.player_text.specs.Facts.{is_list, is_filter_list, is_order_list}
 use Rattle.player_text.proofs.Laws.{are_measured}
+use Rattle.player_text.specs.declared.texts.Start.{Start}
+use Rattle.player_text.specs.Texts.{filter_tree, voice_tree, init_tree}
 use Rattle.player_memory.specs.declared.labels.TheConstants.{VARIABLES, FIRST_CLEARED, LENT, FREQUENCY_LOWS, ONE_WAVE}
 use Rattle.player_memory.specs.declared.labels.TheConstants.{SLIDES_LOW, SLIDES_HIGH, FILTER_LEFTS, NEXT_FILTER_LEFTS}
-use Rattle.player_memory.specs.declared.labels.TheConstants.{FILTER_RIGHTS, ORDERS_LOW, ORDERS_HIGH}
+use Rattle.player_memory.specs.declared.labels.TheConstants.{FILTER_RIGHTS, ORDERS_LOW, ORDERS_HIGH, GATE_FROM}
+use Rattle.player_memory.specs.declared.labels.TheConstants.{ENVELOPE_FROM}
+use Rattle.player_memory.specs.declared.conditions.TheConstants.{FIRST_HOLDS}
 use Rattle.player_code.specs.declared.labels.TheConstants.{INIT_CODE}
 use Rattle.player_code.specs.CodeLines.{name, byte_line, names_at, cleared_of}
 use Rattle.player_code.specs.Plans.{IsListLine, IsData, Plan, IsPlan, is_read, code_size}
-use Rattle.player_code.specs.WorkedCode.{labelled_lines, worked_lists, plan_with}
+use Rattle.player_code.specs.WorkedCode.{labelled_lines, worked_lists, plan_with, worked_plan}
 use Rattle.player_code.specs.WorkedCode.{VariablesAreNamed, PlansAreMet, PlansAreRefused, CodeIsMeasured}
 use Rattle.player_code.specs.WorkedCode.{ListsAreRefused}
 use Rattle.player_code.proofs.Naming.{Naming, none_named, one_named, joined, weaker}
@@ -67,7 +72,7 @@ lines_are first (byte ∷ bytes) low high =
     (lines_are (first + 1) bytes (omega (arith, low)) (omega (arith, high))))
 
 -- what is read is in the row
-within : (label : ℕ) → is_read label ≡ true → (FREQUENCY_LOWS ≤ label) × (label < FREQUENCY_LOWS + 34)
+within : (label : ℕ) → is_read label ≡ true → (FREQUENCY_LOWS ≤ label) × (label < FREQUENCY_LOWS + 36)
 within label e =
     elim (or_cases (is_list label || is_filter_list label) (is_order_list label) e) [
       | inl lists ↦
@@ -78,27 +83,51 @@ within label e =
       | inr orders ↦ in_orders label orders
     ]
   where
-    same : (label other : ℕ) → (FREQUENCY_LOWS ≤ other) → (other < FREQUENCY_LOWS + 34) → (label == other) ≡ true →
-        (FREQUENCY_LOWS ≤ label) × (label < FREQUENCY_LOWS + 34)
+    same : (label other : ℕ) → (FREQUENCY_LOWS ≤ other) → (other < FREQUENCY_LOWS + 36) → (label == other) ≡ true →
+        (FREQUENCY_LOWS ≤ label) × (label < FREQUENCY_LOWS + 36)
     same label other low high e = (let is = eqb-true label other e in (omega (arith, is, low), omega (arith, is, high)))
 
-    in_list : (label : ℕ) → is_list label ≡ true → (FREQUENCY_LOWS ≤ label) × (label < FREQUENCY_LOWS + 34)
-    in_list label e =
+    in_row : (label : ℕ) → (nat_le FREQUENCY_LOWS label && nat_le label ONE_WAVE) ≡ true →
+        (FREQUENCY_LOWS ≤ label) × (label < FREQUENCY_LOWS + 36)
+    in_row label row =
+        let both = and_parts (nat_le FREQUENCY_LOWS label) (nat_le label ONE_WAVE) row in
+        let least = leb-true FREQUENCY_LOWS label both.0 in
+        let most = leb-true label ONE_WAVE both.1 in
+        (least, omega (arith, most))
+
+    in_slides : (label : ℕ) →
+        (nat_le FREQUENCY_LOWS label && nat_le label ONE_WAVE || label == SLIDES_LOW || label == SLIDES_HIGH) ≡ true →
+        (FREQUENCY_LOWS ≤ label) × (label < FREQUENCY_LOWS + 36)
+    in_slides label e =
         elim (or_cases (nat_le FREQUENCY_LOWS label && nat_le label ONE_WAVE || label == SLIDES_LOW)
         (label == SLIDES_HIGH) e) [
           | inl low ↦
               elim (or_cases (nat_le FREQUENCY_LOWS label && nat_le label ONE_WAVE) (label == SLIDES_LOW) low) [
-                | inl row ↦
-                    let both = and_parts (nat_le FREQUENCY_LOWS label) (nat_le label ONE_WAVE) row in
-                    let least = leb-true FREQUENCY_LOWS label both.0 in
-                    let most = leb-true label ONE_WAVE both.1 in
-                    (least, omega (arith, most))
+                | inl row ↦ in_row label row
                 | inr slides ↦ same label SLIDES_LOW (omega arith) (omega arith) slides
               ]
           | inr slides ↦ same label SLIDES_HIGH (omega arith) (omega arith) slides
         ]
 
-    in_filter : (label : ℕ) → is_filter_list label ≡ true → (FREQUENCY_LOWS ≤ label) × (label < FREQUENCY_LOWS + 34)
+    in_others : (label : ℕ) →
+        (nat_le FREQUENCY_LOWS label && nat_le label ONE_WAVE || label == SLIDES_LOW || label == SLIDES_HIGH
+        || label == GATE_FROM) ≡ true → (FREQUENCY_LOWS ≤ label) × (label < FREQUENCY_LOWS + 36)
+    in_others label e =
+        elim (or_cases (nat_le FREQUENCY_LOWS label && nat_le label ONE_WAVE || label == SLIDES_LOW
+        || label == SLIDES_HIGH) (label == GATE_FROM) e) [
+          | inl slides ↦ in_slides label slides
+          | inr gates ↦ same label GATE_FROM (omega arith) (omega arith) gates
+        ]
+
+    in_list : (label : ℕ) → is_list label ≡ true → (FREQUENCY_LOWS ≤ label) × (label < FREQUENCY_LOWS + 36)
+    in_list label e =
+        elim (or_cases (nat_le FREQUENCY_LOWS label && nat_le label ONE_WAVE || label == SLIDES_LOW
+        || label == SLIDES_HIGH || label == GATE_FROM) (label == ENVELOPE_FROM) e) [
+          | inl others ↦ in_others label others
+          | inr envelopes ↦ same label ENVELOPE_FROM (omega arith) (omega arith) envelopes
+        ]
+
+    in_filter : (label : ℕ) → is_filter_list label ≡ true → (FREQUENCY_LOWS ≤ label) × (label < FREQUENCY_LOWS + 36)
     in_filter label e =
         elim (or_cases (label == FILTER_LEFTS || label == NEXT_FILTER_LEFTS) (label == FILTER_RIGHTS) e) [
           | inl lefts ↦
@@ -109,7 +138,7 @@ within label e =
           | inr rights ↦ same label FILTER_RIGHTS (omega arith) (omega arith) rights
         ]
 
-    in_orders : (label : ℕ) → is_order_list label ≡ true → (FREQUENCY_LOWS ≤ label) × (label < FREQUENCY_LOWS + 34)
+    in_orders : (label : ℕ) → is_order_list label ≡ true → (FREQUENCY_LOWS ≤ label) × (label < FREQUENCY_LOWS + 36)
     in_orders label e =
         elim (or_cases (label == ORDERS_LOW) (label == ORDERS_HIGH) e) [
           | inl low ↦ same label ORDERS_LOW (omega arith) (omega arith) low
@@ -120,12 +149,12 @@ read_named : (label : ℕ) → is_read label ≡ true → IsNamedAlways worked_l
 read_named label e =
     let row = within label e in
     subst (λ l. IsNamedAlways worked_lists l) (omega (arith, row))
-    (labelled_named FREQUENCY_LOWS (label - FREQUENCY_LOWS) (replicate 34 0) (omega (arith, row)))
+    (labelled_named FREQUENCY_LOWS (label - FREQUENCY_LOWS) (replicate 36 0) (omega (arith, row)))
 
 worked_is : IsData worked_lists
 worked_is = record {
-  lines = lines_are FREQUENCY_LOWS (replicate 34 0) (omega arith) (omega arith);
-  once = (labelled_name FREQUENCY_LOWS (replicate 34 0)).once;
+  lines = lines_are FREQUENCY_LOWS (replicate 36 0) (omega arith) (omega arith);
+  once = (labelled_name FREQUENCY_LOWS (replicate 36 0)).once;
   tables = read_named;
 }
 
@@ -167,7 +196,7 @@ sums : (all variables filter voice init n f v i : ℕ) → all ≡ 22 + n + f + 
     v ≡ voice → i ≡ init → all ≡ 22 + variables + filter + voice + init
 sums all variables filter voice init n f v i e count one two three = omega (arith, e, count, one, two, three)
 
-bounds : (all n f v i : ℕ) → all ≡ 22 + n + f + v + i → n ≤ 113 → f ≤ 102 → v ≤ 1336 → i ≤ 92 → all ≤ 1665
+bounds : (all n f v i : ℕ) → all ≡ 22 + n + f + v + i → n ≤ 113 → f ≤ 102 → v ≤ 1338 → i ≤ 92 → all ≤ 1667
 bounds all n f v i e few one two three = omega (arith, e, few, one, two, three)
 
 bare : (places : ℕ → ℕ) (variables : ℕ) →
@@ -186,12 +215,32 @@ full places variables =
     sums _ _ _ _ _ _ _ _ _ (takes plan) (length-replicate {A = ℕ} variables 0) are_measured.filter.takes_full
     are_measured.voice.takes_full init.takes_full
 
+-- the voices' code is longer where the first instrument holds no more than another; the other two are as they are
+abbrev all_but_one : ℕ → Bool
+all_but_one condition = not (condition == FIRST_HOLDS)
+
+filter_long : size all_but_one filter_tree ≡ 102
+filter_long = refl
+
+voice_long : size all_but_one voice_tree ≡ 1338
+voice_long = refl
+
+init_long : (start : Start) (cleared : ℕ) → size all_but_one (init_tree start cleared) ≡ 92
+init_long start cleared = refl
+
+greatest : code_size (worked_plan all_but_one) ≡ 1667
+greatest =
+    let plan = worked_plan all_but_one in
+    sums _ _ _ _ _ _ _ _ _ (takes plan) (length-replicate {A = ℕ} 113 0) filter_long voice_long
+    (init_long plan.start (cleared_of (length plan.variables)))
+
 pub code_is_measured : CodeIsMeasured
 code_is_measured = record {
   bare = bare (λ label. label) 113;
   full = full (λ label. label) 113;
   small_bare = bare (λ label. label - 33) 80;
   small_full = full (λ label. label - 33) 80;
+  greatest = greatest;
   most = λ plan is.
       bounds _ _ _ _ _ (takes plan) is.variables_high (are_measured.filter.takes_most plan.holds)
       (are_measured.voice.takes_most plan.holds)
@@ -209,10 +258,10 @@ lists_are_refused = record {
   twice = λ is. (let named = read_named SLIDES_HIGH refl in
       is.once.once [] (name SLIDES_HIGH) named.front named.line named.back SLIDES_HIGH
       (ap (λ ls. name SLIDES_HIGH ∷ ls) named.split) refl named.names);
-  missing = λ is. (let named = is.tables SLIDES_HIGH refl in
+  missing = λ is. (let named = is.tables ENVELOPE_FROM refl in
       let row =
-      (labelled_name FREQUENCY_LOWS (replicate 33 0)).named named.front named.line named.back SLIDES_HIGH named.split
-      named.names in
+      (labelled_name FREQUENCY_LOWS (replicate 35 0)).named named.front named.line named.back ENVELOPE_FROM
+      named.split named.names in
       omega (arith, row));
 } where
   unkept : Line

@@ -35,7 +35,8 @@ pub fn assembled_code_stands()
 {}
 
 /// Two bytes with the names in front of them; plans at `$1000`, worked by hand, and such as are none; how many bytes
-/// their code takes, without conditions and with all, and that none takes more; and lists that are none.
+/// their code takes, without conditions, with all, and where it takes most, and that none takes more; and lists that are
+/// none.
 pub fn worked_codes()
     ensures names { VariablesAreNamed }
     ensures plans { PlansAreMet }

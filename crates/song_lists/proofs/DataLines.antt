@@ -59,7 +59,7 @@ lines_are_few dependent packed start lines counts has =
     let count = ap length has.are ∙ marked_length 0 has.marks (data_bytes dependent packed start) in
     few_enough (length lines) (length has.marks) (length (data_marks dependent packed)) count same most
   where
-    few_enough : (lines marks all : ℕ) → lines ≡ 2 * marks + 1 → marks ≡ all → all ≤ 338 → lines ≤ 1000
+    few_enough : (lines marks all : ℕ) → lines ≡ 2 * marks + 1 → marks ≡ all → all ≤ 340 → lines ≤ 1000
     few_enough _ _ _ a b c = omega arith
 
 -- ---- labels

@@ -30,7 +30,7 @@ pub few_patterns : (packed : PackedSong) → KeepsCounts packed → length packe
 few_patterns packed counts = counts.patterns
 
 pub marks_are_few : (dependent : Bool) (packed : PackedSong) → KeepsCounts packed →
-    length (data_marks dependent packed) ≤ 338
+    length (data_marks dependent packed) ≤ 340
 marks_are_few dependent packed counts =
     let subtunes = few_subtunes packed counts in
     let patterns = few_patterns packed counts in
@@ -94,7 +94,7 @@ labels_from label (place ∷ places) = ap (λ (ls : List ℕ). label ∷ ls) (la
 
 -- the labels of the lists that each song has
 abbrev pub list_names : List ℕ
-list_names = range_with_len 128 32 ++ range_with_len 160 2
+list_names = range_with_len 128 32 ++ range_with_len 160 4
 
 list_labels : (dependent : Bool) (packed : PackedSong) →
     map (λ (mark : Mark). mark.label) (list_marks dependent packed) ≡ list_names
@@ -102,29 +102,29 @@ list_labels dependent packed = refl
 
 name_in_front : (k : ℕ) → k < 32 → get_or list_names k 0 ≡ 128 + k
 name_in_front k inside =
-    get_or_append_left (range_with_len 128 32) (range_with_len 160 2) 0 k inside
+    get_or_append_left (range_with_len 128 32) (range_with_len 160 4) 0 k inside
     ∙ get_or-range_with_len 128 32 k 0 inside
 
-name_behind : (k : ℕ) → k < 2 → get_or list_names (32 + k) 0 ≡ 160 + k
+name_behind : (k : ℕ) → k < 4 → get_or list_names (32 + k) 0 ≡ 160 + k
 name_behind k inside =
-    get_or-append-add (range_with_len 128 32) (range_with_len 160 2) k 0 ∙ get_or-range_with_len 160 2 k 0 inside
+    get_or-append-add (range_with_len 128 32) (range_with_len 160 4) k 0 ∙ get_or-range_with_len 160 4 k 0 inside
 
 listed_once : (label : ℕ) → times_in label list_names ≤ 1
 listed_once label =
-    let both = times_in-append label (range_with_len 128 32) (range_with_len 160 2) in elim (cases_lt label 160) [
+    let both = times_in-append label (range_with_len 128 32) (range_with_len 160 4) in elim (cases_lt label 160) [
       | inl low ↦
-          let second = none_below label 160 2 low in
+          let second = none_below label 160 4 low in
           omega (arith, one_at_most label 128 32)
       | inr high ↦
           let first = none_above label 128 32 (omega arith) in
-          omega (arith, one_at_most label 160 2)
+          omega (arith, one_at_most label 160 4)
     ]
 
 none_listed : (label : ℕ) → 256 ≤ label → times_in label list_names ≡ 0
 none_listed label high =
-    let both = times_in-append label (range_with_len 128 32) (range_with_len 160 2) in
+    let both = times_in-append label (range_with_len 128 32) (range_with_len 160 4) in
     let first = none_above label 128 32 (omega arith) in
-    let second = none_above label 160 2 (omega arith) in
+    let second = none_above label 160 4 (omega arith) in
     omega arith
 
 three_ranges : (label orders patterns : ℕ) → orders ≤ 256 →
@@ -193,13 +193,13 @@ permuted_once dependent packed label marks counts same =
 
 -- ---- which labels they are
 
-pub list_label_at : (dependent : Bool) (packed : PackedSong) (k : ℕ) (d : Mark) → k < 34 →
+pub list_label_at : (dependent : Bool) (packed : PackedSong) (k : ℕ) (d : Mark) → k < 36 →
     (get_or (list_marks dependent packed) k d).label ≡ get_or list_names k 0
 list_label_at dependent packed k d inside =
     sym (get_or-map label_in (list_marks dependent packed) k d 0 inside)
     ∙ ap (λ (names : List ℕ). get_or names k 0) (list_labels dependent packed)
 
-pub are_list_names : (k : ℕ) → k < 34 → IsListLabel (get_or list_names k 0)
+pub are_list_names : (k : ℕ) → k < 36 → IsListLabel (get_or list_names k 0)
 are_list_names k inside = elim (cases_lt k 32) [
   | inl front ↦
       let name = name_in_front k front in
@@ -211,7 +211,7 @@ are_list_names k inside = elim (cases_lt k 32) [
 ]
 
 -- and which of them a label is
-pub list_name_at : (label : ℕ) → IsListLabel label → (k : ℕ) × (k < 34) × (get_or list_names k 0 ≡ label)
+pub list_name_at : (label : ℕ) → IsListLabel label → (k : ℕ) × (k < 36) × (get_or list_names k 0 ≡ label)
 list_name_at label (inl between) =
     let least = between.0 in
     let most = between.1 in

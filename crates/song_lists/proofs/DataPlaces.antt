@@ -10,9 +10,10 @@ use Rattle.player_memory.specs.SongLists.{Instruments, gap_size}
 use Rattle.song_lists.specs.declared.marks.Mark.{Mark}
 use Rattle.song_lists.specs.DataLists.{all_orders, slides_low_place, slides_high_place, periods_place, orders_place}
 use Rattle.song_lists.specs.DataLists.{patterns_place, places_from, order_places, pattern_places, data_bytes, own_mark}
-use Rattle.song_lists.specs.DataLists.{one_wave_place, frequencies_place, bytes_back, frequency_marks, speed_marks}
+use Rattle.song_lists.specs.DataLists.{one_wave_place, gate_from_place, envelope_from_place, frequencies_place}
+use Rattle.song_lists.specs.DataLists.{bytes_back, frequency_marks, speed_marks}
 use Rattle.song_lists.specs.DataLists.{wave_marks, pulse_marks, filter_marks, instrument_marks}
-use Rattle.song_lists.specs.DataLists.{address_marks, shared_marks, slide_marks, list_marks, data_marks}
+use Rattle.song_lists.specs.DataLists.{address_marks, shared_marks, slide_marks, holder_marks, list_marks, data_marks}
 use Rattle.song_lists.specs.ListLaws.{lists_size}
 use Rattle.song_lists.proofs.Pieces.{places_count, size_within, place_at}
 use Rattle.song_lists.proofs.Lists.{lengths, field_sums, whole_length, texts_end, frequency_labels}
@@ -43,15 +44,24 @@ periods_within : (dependent : Bool) (packed : PackedSong) →
 periods_within true packed = omega arith
 periods_within false packed = omega arith
 
--- the second byte for all instruments is among as many as there are
+-- the bytes behind the first one for all instruments are among as many as there are
 wave_within : (dependent : Bool) (packed : PackedSong) →
     one_wave_place dependent packed ≤ orders_place dependent packed
-wave_within dependent packed = (let each = (lengths dependent packed 0).wave in omega arith)
+wave_within dependent packed = (let all = (lengths dependent packed 0).envelopes in omega arith)
+
+gate_within : (dependent : Bool) (packed : PackedSong) →
+    gate_from_place dependent packed ≤ orders_place dependent packed
+gate_within dependent packed = (let all = (lengths dependent packed 0).envelopes in omega arith)
+
+envelope_within : (dependent : Bool) (packed : PackedSong) →
+    envelope_from_place dependent packed ≤ orders_place dependent packed
+envelope_within dependent packed = (let all = (lengths dependent packed 0).envelopes in omega arith)
 
 -- the last ones, from the addresses and from the instruments on
 abbrev behind_instruments : Bool → PackedSong → List Mark
 behind_instruments dependent packed =
-    address_marks dependent packed ++ (shared_marks dependent packed ++ slide_marks dependent packed)
+    address_marks dependent packed ++ (shared_marks dependent packed ++ (slide_marks dependent packed
+    ++ holder_marks dependent packed))
 
 abbrev behind_tables : Bool → PackedSong → List Mark
 behind_tables dependent packed = instrument_marks dependent packed ++ behind_instruments dependent packed
@@ -80,7 +90,10 @@ others_within dependent packed =
                 wave_within dependent packed,
                 (
                   low_within dependent packed,
-                  (high_within dependent packed, tt),
+                  (
+                    high_within dependent packed,
+                    (gate_within dependent packed, (envelope_within dependent packed, tt)),
+                  ),
                 ),
               ),
             ),

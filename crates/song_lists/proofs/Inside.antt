@@ -13,17 +13,19 @@ use Rattle.asm6502.specs.Standing.{BytesStand}
 use Rattle.scopes.specs.Desk.{Layout}
 use Rattle.player_memory.specs.declared.conditions.TheConstants.{NOTE_DEPENDENT}
 use Rattle.player_memory.specs.declared.labels.TheConstants.{ORDERS, SLIDES_LOW, SLIDES_HIGH, ONE_TIMER, ONE_WAVE}
+use Rattle.player_memory.specs.declared.labels.TheConstants.{GATE_FROM, ENVELOPE_FROM}
 use Rattle.player_memory.specs.Playing.{place_in}
 use Rattle.player_memory.specs.Fetching.{place_before}
 use Rattle.player_memory.specs.SongLists.{SongList, FrequencyLows, FrequencyHighs, Lefts, Rights, Periods, Instruments}
-use Rattle.player_memory.specs.SongLists.{OneTimer, OneWave, OrderLows, OrderHighs, PatternLows, PatternHighs}
-use Rattle.player_memory.specs.SongLists.{OrderBytes, PatternBytes}
+use Rattle.player_memory.specs.SongLists.{OneTimer, OneWave, GateFrom, EnvelopeFrom, OrderLows, OrderHighs}
+use Rattle.player_memory.specs.SongLists.{PatternLows, PatternHighs, OrderBytes, PatternBytes}
 use Rattle.player_memory.specs.SongLists.{IsSongList, HasNumber, SlidesStand, list_label, list_length, first_number}
 use Rattle.player_memory.specs.SongLists.{slide_rows}
 use Rattle.player_memory.specs.Holds.{AreNext}
 use Rattle.song_lists.specs.DataLists.{speed_rights_place, speed_lefts_place, slides_low_place, slides_high_place}
 use Rattle.song_lists.specs.DataLists.{periods_place, orders_place, patterns_place, all_orders, order_places}
-use Rattle.song_lists.specs.DataLists.{frequencies_place, bytes_back, pattern_places, data_bytes, label_place, list_marks}
+use Rattle.song_lists.specs.DataLists.{frequencies_place, bytes_back, pattern_places, data_bytes, label_place}
+use Rattle.song_lists.specs.DataLists.{list_marks}
 use Rattle.song_lists.specs.ListLaws.{lists_size, IsListLayout, IsInside, IsBesideSlides, DataStandsIn}
 use Rattle.song_lists.specs.ListLaws.{PatternStandsInside, SlidesStandInside}
 use Rattle.song_lists.proofs.Pieces.{StandsIn, size_within, place_at, orders_count}
@@ -44,6 +46,8 @@ is_written layout packed Periods is = is
 is_written layout packed (Instruments field) is = is
 is_written layout packed OneTimer is = is
 is_written layout packed OneWave is = is
+is_written layout packed GateFrom is = is
+is_written layout packed EnvelopeFrom is = is
 is_written layout packed OrderLows is = is
 is_written layout packed OrderHighs is = is
 is_written layout packed PatternLows is = is
@@ -137,6 +141,8 @@ list_beside packed Periods i is below = inr (omega arith)
 list_beside packed (Instruments field) i is below = inr (omega arith)
 list_beside packed OneTimer i is below = inr (omega arith)
 list_beside packed OneWave i is below = inr (omega arith)
+list_beside packed GateFrom i is below = inr (omega arith)
+list_beside packed EnvelopeFrom i is below = inr (omega arith)
 list_beside packed OrderLows i is below = inr (omega arith)
 list_beside packed OrderHighs i is below = inr (omega arith)
 list_beside packed PatternLows i is below = inr (omega arith)
@@ -218,13 +224,17 @@ kept_stand false packed start e = absurd (cc)
 pub shared_stand_inside : (layout : Layout) (packed : PackedSong) (start : ℕ) → IsListLayout layout packed start →
     (layout.address ONE_TIMER ≤ start + lists_size (layout.holds NOTE_DEPENDENT) packed)
     × (layout.address ONE_WAVE ≤ start + lists_size (layout.holds NOTE_DEPENDENT) packed)
+    × (layout.address GATE_FROM ≤ start + lists_size (layout.holds NOTE_DEPENDENT) packed)
+    × (layout.address ENVELOPE_FROM ≤ start + lists_size (layout.holds NOTE_DEPENDENT) packed)
 shared_stand_inside layout packed start laid =
     let dependent = layout.holds NOTE_DEPENDENT in
     let timer = fixed_at layout dependent packed start 30 no_mark laid.laid (omega arith) in
     let wave = fixed_at layout dependent packed start 31 no_mark laid.laid (omega arith) in
-    let all = (lengths dependent packed start).wave in
+    let gates = fixed_at layout dependent packed start 34 no_mark laid.laid (omega arith) in
+    let envelopes = fixed_at layout dependent packed start 35 no_mark laid.laid (omega arith) in
+    let all = (lengths dependent packed start).envelopes in
     let end = texts_end dependent packed in
-    (omega arith, omega arith)
+    (omega arith, omega arith, omega arith, omega arith)
 
 pub orders_stand_inside : (layout : Layout) (packed : PackedSong) (start number : ℕ) →
     IsListLayout layout packed start → number < 3 * length packed.subtunes →
@@ -288,7 +298,7 @@ next_bytes_are_next layout packed start laid = record {
   filter_lefts = a_byte_on _ _ _ (at 14 (omega arith)) (at 15 (omega arith));
 }
   where
-    at : (k : ℕ) → k < 34 → layout.address (get_or (list_marks (layout.holds NOTE_DEPENDENT) packed) k no_mark).label
+    at : (k : ℕ) → k < 36 → layout.address (get_or (list_marks (layout.holds NOTE_DEPENDENT) packed) k no_mark).label
         ≡ start + (get_or (list_marks (layout.holds NOTE_DEPENDENT) packed) k no_mark).place
     at k below = fixed_at layout (layout.holds NOTE_DEPENDENT) packed start k no_mark laid.laid below
 
@@ -356,7 +366,7 @@ slides_stand_in layout packed start at laid bytes = record {
       omega arith;
 }
   where
-    label_at : (k : ℕ) → k < 34 →
+    label_at : (k : ℕ) → k < 36 →
         layout.address (get_or (list_marks (layout.holds NOTE_DEPENDENT) packed) k no_mark).label
         ≡ start + (get_or (list_marks (layout.holds NOTE_DEPENDENT) packed) k no_mark).place
     label_at k below = fixed_at layout (layout.holds NOTE_DEPENDENT) packed start k no_mark laid.laid below

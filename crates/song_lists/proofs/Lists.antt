@@ -9,15 +9,20 @@ use Rattle.std.proofs.lemmas.List.FromFn.{length-range_with_len, sum_by-map-rang
 use Rattle.song_model.specs.LookUp.{instrument_at}
 use Rattle.play_model.specs.Freq.{freq}
 use Rattle.song_facts.specs.Facts.{timer_of}
+use Rattle.song_facts.specs.declared.hold.Hold.{Hold}
+use Rattle.song_facts.specs.declared.hold.Hold.TheVariants.{Envelope, Gate}
 use Rattle.packed_form.specs.declared.packed_songs.PackedSong.{PackedSong}
 use Rattle.packed_form.specs.Sizes.{list_size, subtune_size}
 use Rattle.packed_form.specs.Unpacked.{unpacked_instrument, unpacked_song}
+use Rattle.packed_form.specs.Holders.{first_holder}
 use Rattle.player_memory.specs.Forms.{stored}
-use Rattle.player_memory.specs.SongLists.{is_read, unread, unread_size, unlisted_size, shared_size, bytes_in_front, gap_size}
-use Rattle.player_memory.specs.SongLists.{instrument_byte}
+use Rattle.player_memory.specs.SongLists.{is_read, unread, unread_size, unlisted_size, shared_size, bytes_in_front}
+use Rattle.player_memory.specs.SongLists.{gap_size}
+use Rattle.player_memory.specs.SongLists.{instrument_byte, has_gate_from, has_envelope_from}
 use Rattle.song_lists.specs.DataLists.{frequency_lows, frequency_highs, lefts, rights, stored_rows, periods}
 use Rattle.song_lists.specs.DataLists.{kept_list, kept_rows, field_bytes, instrument_bytes, field_size, fields_before}
-use Rattle.song_lists.specs.DataLists.{one_timer_bytes, one_wave_bytes, one_timer_size, all_orders, lows, highs}
+use Rattle.song_lists.specs.DataLists.{one_timer_bytes, one_wave_bytes, gate_from_bytes, envelope_from_bytes}
+use Rattle.song_lists.specs.DataLists.{one_timer_size, one_wave_size, gate_from_size, all_orders, lows, highs}
 use Rattle.song_lists.specs.DataLists.{orders_place, patterns_place, frequencies_place, bytes_back}
 use Rattle.song_lists.specs.DataLists.{gap_bytes, frequency_lists}
 use Rattle.song_lists.specs.DataLists.{listed_orders, order_places, listed_places, pattern_places, data_bytes}
@@ -36,7 +41,7 @@ fixed_lists dependent packed start =
     ∷ instrument_bytes packed 0 ∷ instrument_bytes packed 1 ∷ instrument_bytes packed 2
     ∷ instrument_bytes packed 3 ∷ instrument_bytes packed 4 ∷ instrument_bytes packed 5
     ∷ instrument_bytes packed 6 ∷ instrument_bytes packed 7 ∷ instrument_bytes packed 8
-    ∷ one_timer_bytes packed ∷ one_wave_bytes packed
+    ∷ one_timer_bytes packed ∷ one_wave_bytes packed ∷ gate_from_bytes packed ∷ envelope_from_bytes packed
     ∷ lows start 0 (listed_places dependent packed) ∷ highs start 0 (listed_places dependent packed)
     ∷ lows start 1 (pattern_places dependent packed) ∷ highs start 1 (pattern_places dependent packed) ∷ []
 
@@ -79,7 +84,10 @@ pub record Lengths (dependent : Bool) (packed : PackedSong) (start : ℕ) : Type
   pub eighth : length (instrument_bytes packed 7) ≡ field_size packed 7
   pub ninth : length (instrument_bytes packed 8) ≡ field_size packed 8
   pub timer : length (one_timer_bytes packed) ≡ one_timer_size packed
-  pub wave : one_timer_size packed + length (one_wave_bytes packed) ≡ shared_size packed
+  pub wave : length (one_wave_bytes packed) ≡ one_wave_size packed
+  pub gates : length (gate_from_bytes packed) ≡ gate_from_size packed
+  pub envelopes : one_timer_size packed + one_wave_size packed + gate_from_size packed
+      + length (envelope_from_bytes packed) ≡ shared_size packed
   pub order_lows : length (lows start 0 (listed_places dependent packed)) ≡ listed_orders packed
   pub order_highs : length (highs start 0 (listed_places dependent packed)) ≡ listed_orders packed
   pub pattern_lows : length (lows start 1 (pattern_places dependent packed)) ≡ length packed.patterns
@@ -109,13 +117,19 @@ timer_count packed = by_test packed.facts.own_timer
     by_test true = refl
     by_test false = refl
 
-wave_count : (packed : PackedSong) → one_timer_size packed + length (one_wave_bytes packed) ≡ shared_size packed
-wave_count packed = ap (λ (n : ℕ). one_timer_size packed + n) (by_test packed.facts.own_wave)
+wave_count : (packed : PackedSong) → length (one_wave_bytes packed) ≡ one_wave_size packed
+wave_count packed = by_test packed.facts.own_wave
   where
     by_test : (z : Bool) →
         length (if z then [] else (instrument_at (unpacked_song packed) 1).first_wave ∷ []) ≡ if z then 0 else 1
     by_test true = refl
     by_test false = refl
+
+-- and one where a number tells from which on they hold so much
+number_count : (z : Bool) (packed : PackedSong) (hold : Hold) →
+    length (if z then first_holder packed hold ∷ [] else []) ≡ if z then 1 else 0
+number_count true packed hold = refl
+number_count false packed hold = refl
 
 pub order_places_count : (dependent : Bool) (packed : PackedSong) →
     length (order_places dependent packed) ≡ 3 * length packed.subtunes
@@ -166,6 +180,9 @@ lengths dependent packed start = record {
   ninth = field_count packed 8;
   timer = timer_count packed;
   wave = wave_count packed;
+  gates = number_count (has_gate_from packed) packed Gate;
+  envelopes = ap (λ (n : ℕ). one_timer_size packed + one_wave_size packed + gate_from_size packed + n)
+      (number_count (has_envelope_from packed) packed Envelope);
   order_lows = length-map (listed_places dependent packed) (λ place. (start + place - 0) % 256)
       ∙ listed_count dependent packed;
   order_highs = length-map (listed_places dependent packed) (λ place. (start + place - 0) / 256)
@@ -248,8 +265,8 @@ frequencies_begin dependent packed =
     ap (λ (n : ℕ). n + gap_size packed)
     (sizes_sum (length (concat (all_orders packed))) (length (concat packed.patterns))
     (length packed.subtunes) (length packed.patterns) (length packed.instruments) (fields_before packed 9)
-    (unread_size packed) (listed_orders packed) (unlisted_size packed) (shared_size packed) (length packed.wave) (length packed.pulse) (length packed.filter)
-    (length packed.speed) (kept_rows dependent packed)
+    (unread_size packed) (listed_orders packed) (unlisted_size packed) (shared_size packed) (length packed.wave)
+    (length packed.pulse) (length packed.filter) (length packed.speed) (kept_rows dependent packed)
     (sum_by subtune_size packed.subtunes)
     (sum_by list_size packed.patterns) (orders_size packed.subtunes) (texts_size packed.patterns)
     (field_sums packed).all (listed_or_not packed))

@@ -13,22 +13,25 @@ use Rattle.song_model.specs.declared.tables.TableName.{TableName}
 use Rattle.song_model.specs.LookUp.{table_of, instrument_at, table_row, zero_instrument, zero_table_row}
 use Rattle.play_model.specs.Freq.{freq}
 use Rattle.song_facts.specs.Facts.{timer_of}
+use Rattle.song_facts.specs.declared.hold.Hold.TheVariants.{Envelope, Gate}
 use Rattle.packed_form.specs.declared.packed_songs.PackedInstrument.{PackedInstrument}
 use Rattle.packed_form.specs.declared.packed_songs.PackedSong.{PackedSong}
 use Rattle.packed_form.specs.Unpacked.{unpacked_instrument, unpacked_song}
+use Rattle.packed_form.specs.Holders.{first_holder}
 use Rattle.scopes.specs.Desk.{Layout}
 use Rattle.player_memory.specs.declared.labels.TheConstants.{ORDERS, PATTERNS}
 use Rattle.player_memory.specs.Forms.{stored}
 use Rattle.player_memory.specs.SongLists.{SongList, FrequencyLows, FrequencyHighs, Lefts, Rights, Periods, Instruments}
-use Rattle.player_memory.specs.SongLists.{OneTimer, OneWave, OrderLows, OrderHighs, PatternLows, PatternHighs}
-use Rattle.player_memory.specs.SongLists.{OrderBytes, PatternBytes}
+use Rattle.player_memory.specs.SongLists.{OneTimer, OneWave, GateFrom, EnvelopeFrom, OrderLows, OrderHighs}
+use Rattle.player_memory.specs.SongLists.{PatternLows, PatternHighs, OrderBytes, PatternBytes}
 use Rattle.player_memory.specs.SongLists.{is_read, list_label, list_length, list_byte, first_number, instrument_byte}
 use Rattle.player_memory.specs.SongLists.{order_bytes, pattern_bytes}
 use Rattle.player_memory.proofs.Laws.{read_below}
 use Rattle.song_lists.specs.declared.marks.Mark.{Mark}
 use Rattle.song_lists.specs.Marks.{mark_at}
 use Rattle.song_lists.specs.DataLists.{frequency_lows, frequency_highs, lefts, rights, stored_rows}
-use Rattle.song_lists.specs.DataLists.{field_bytes, instrument_bytes, one_timer_bytes, one_wave_bytes}
+use Rattle.song_lists.specs.DataLists.{field_bytes, instrument_bytes, one_timer_bytes, one_wave_bytes, gate_from_bytes}
+use Rattle.song_lists.specs.DataLists.{envelope_from_bytes}
 use Rattle.song_lists.specs.DataLists.{lows, highs, order_places, pattern_places, patterns_place}
 use Rattle.song_lists.specs.DataLists.{label_place, marks_from, list_marks, data_marks, IsDataLayout}
 use Rattle.song_lists.proofs.Pieces.{places_count}
@@ -62,7 +65,7 @@ marks_have label places k inside = (
 
 pub fixed_at : (layout : Layout) (dependent : Bool) (packed : PackedSong) (start k : ℕ) (d : Mark) →
     IsDataLayout layout dependent packed start →
-    k < 34 →
+    k < 36 →
     layout.address (get_or (list_marks dependent packed) k d).label
     ≡ start + (get_or (list_marks dependent packed) k d).place
 fixed_at layout dependent packed start k d laid inside =
@@ -172,6 +175,10 @@ begins_at layout dependent packed start OneTimer laid is =
     fixed_at layout dependent packed start 30 no_mark laid (omega arith)
 begins_at layout dependent packed start OneWave laid is =
     fixed_at layout dependent packed start 31 no_mark laid (omega arith)
+begins_at layout dependent packed start GateFrom laid is =
+    fixed_at layout dependent packed start 34 no_mark laid (omega arith)
+begins_at layout dependent packed start EnvelopeFrom laid is =
+    fixed_at layout dependent packed start 35 no_mark laid (omega arith)
 begins_at layout dependent packed start (Instruments field) laid is =
     instruments_begin layout dependent packed start field laid (read_below packed field is)
 begins_at layout dependent packed start (OrderBytes subtune channel) laid is =
@@ -201,6 +208,10 @@ has_length dependent packed start OneTimer is =
     ap (λ (z : Bool). length (if z then [] else timer_of (instrument_at (unpacked_song packed) 1) ∷ [])) is
 has_length dependent packed start OneWave is =
     ap (λ (z : Bool). length (if z then [] else (instrument_at (unpacked_song packed) 1).first_wave ∷ [])) is
+has_length dependent packed start GateFrom is =
+    ap (λ (z : Bool). length (if z then first_holder packed Gate ∷ [] else [])) is
+has_length dependent packed start EnvelopeFrom is =
+    ap (λ (z : Bool). length (if z then first_holder packed Envelope ∷ [] else [])) is
 has_length dependent packed start OrderLows is =
     (lengths dependent packed start).order_lows ∙ ap (λ (z : Bool). if z then 3 * length packed.subtunes else 0) is
 has_length dependent packed start OrderHighs is =
@@ -356,6 +367,14 @@ has_bytes layout dependent packed start OneWave i number laid is inside at =
     let wave : ℕ = (instrument_at (unpacked_song packed) 1).first_wave in
     ap (λ (n : ℕ). get_or (one_wave_bytes packed) n 0) first
     ∙ ap (λ (z : Bool). get_or (if z then [] else wave ∷ []) 0 0) is
+has_bytes layout dependent packed start GateFrom i number laid is inside at =
+    let first : i ≡ 0 = omega arith in
+    ap (λ (n : ℕ). get_or (gate_from_bytes packed) n 0) first
+    ∙ ap (λ (z : Bool). get_or (if z then first_holder packed Gate ∷ [] else []) 0 0) is
+has_bytes layout dependent packed start EnvelopeFrom i number laid is inside at =
+    let first : i ≡ 0 = omega arith in
+    ap (λ (n : ℕ). get_or (envelope_from_bytes packed) n 0) first
+    ∙ ap (λ (z : Bool). get_or (if z then first_holder packed Envelope ∷ [] else []) 0 0) is
 has_bytes layout dependent packed start OrderLows i number laid is inside at =
     let whole : layout.address (ORDERS + number) - 0 ≡ layout.address (ORDERS + number) = omega arith in
     ap (λ (z : Bool). get_or (lows start 0 (if z then order_places dependent packed else [])) i 0) is

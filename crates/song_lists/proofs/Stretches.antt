@@ -8,15 +8,17 @@ use Rattle.song_model.specs.declared.tables.TableName.TheVariants.{Wave, Pulse, 
 use Rattle.packed_form.specs.declared.packed_songs.PackedSubtune.{PackedSubtune}
 use Rattle.packed_form.specs.declared.packed_songs.PackedSong.{PackedSong}
 use Rattle.player_memory.specs.SongLists.{SongList, FrequencyLows, FrequencyHighs, Lefts, Rights, Periods, Instruments}
-use Rattle.player_memory.specs.SongLists.{OneTimer, OneWave, OrderLows, OrderHighs, PatternLows, PatternHighs}
-use Rattle.player_memory.specs.SongLists.{OrderBytes, PatternBytes}
+use Rattle.player_memory.specs.SongLists.{OneTimer, OneWave, GateFrom, EnvelopeFrom, OrderLows, OrderHighs}
+use Rattle.player_memory.specs.SongLists.{PatternLows, PatternHighs, OrderBytes, PatternBytes}
 use Rattle.player_memory.specs.SongLists.{first_number, order_bytes, pattern_bytes, channel_bytes, no_subtune}
-use Rattle.player_memory.specs.SongLists.{is_read, gap_size, slide_rows}
+use Rattle.player_memory.specs.SongLists.{is_read, has_gate_from, has_envelope_from, gap_size, slide_rows}
 use Rattle.player_memory.proofs.Laws.{read_below}
 use Rattle.song_lists.specs.DataLists.{frequency_lows, frequency_highs, lefts, rights, stored_rows, periods}
-use Rattle.song_lists.specs.DataLists.{instrument_bytes, one_timer_bytes, one_wave_bytes, all_orders, orders_of}
+use Rattle.song_lists.specs.DataLists.{instrument_bytes, one_timer_bytes, one_wave_bytes, gate_from_bytes}
+use Rattle.song_lists.specs.DataLists.{envelope_from_bytes, all_orders, orders_of}
 use Rattle.song_lists.specs.DataLists.{lows, highs, periods_place}
-use Rattle.song_lists.specs.DataLists.{orders_place, patterns_place, order_places, listed_places, pattern_places, data_bytes}
+use Rattle.song_lists.specs.DataLists.{orders_place, patterns_place, order_places, listed_places, pattern_places}
+use Rattle.song_lists.specs.DataLists.{data_bytes}
 use Rattle.song_lists.specs.DataLists.{frequencies_place, bytes_back, gap_bytes, frequency_lists, label_place}
 use Rattle.song_lists.proofs.Pieces.{StandsIn, size_before, piece_stands, stands_before, stands_after, place_at}
 use Rattle.song_lists.proofs.Pieces.{order_at, orders_count}
@@ -41,6 +43,8 @@ written dependent packed start Periods = 0 ∷ periods packed.speed
 written dependent packed start (Instruments field) = instrument_bytes packed field
 written dependent packed start OneTimer = one_timer_bytes packed
 written dependent packed start OneWave = one_wave_bytes packed
+written dependent packed start GateFrom = gate_from_bytes packed
+written dependent packed start EnvelopeFrom = envelope_from_bytes packed
 written dependent packed start OrderLows = lows start 0 (listed_places dependent packed)
 written dependent packed start OrderHighs = highs start 0 (listed_places dependent packed)
 written dependent packed start PatternLows = lows start 1 (pattern_places dependent packed)
@@ -54,6 +58,8 @@ IsWritten dependent packed Periods = dependent ≡ true
 IsWritten dependent packed (Instruments field) = is_read packed field ≡ true
 IsWritten dependent packed OneTimer = packed.facts.own_timer ≡ false
 IsWritten dependent packed OneWave = packed.facts.own_wave ≡ false
+IsWritten dependent packed GateFrom = has_gate_from packed ≡ true
+IsWritten dependent packed EnvelopeFrom = has_envelope_from packed ≡ true
 IsWritten dependent packed OrderLows = packed.facts.subtunes ≡ true
 IsWritten dependent packed OrderHighs = packed.facts.subtunes ≡ true
 IsWritten dependent packed (OrderBytes subtune channel) = (subtune < length packed.subtunes) × (channel < 3)
@@ -323,22 +329,30 @@ list_stands dependent packed start OneWave is =
     let each = lengths dependent packed start in
     let sums = field_sums packed in
     fixed_stands dependent packed start 21 _ (omega arith) (omega arith)
-list_stands dependent packed start OrderLows is =
+list_stands dependent packed start GateFrom is =
     let each = lengths dependent packed start in
     let sums = field_sums packed in
     fixed_stands dependent packed start 22 _ (omega arith) (omega arith)
-list_stands dependent packed start OrderHighs is =
+list_stands dependent packed start EnvelopeFrom is =
     let each = lengths dependent packed start in
     let sums = field_sums packed in
     fixed_stands dependent packed start 23 _ (omega arith) (omega arith)
-list_stands dependent packed start PatternLows is =
+list_stands dependent packed start OrderLows is =
     let each = lengths dependent packed start in
     let sums = field_sums packed in
     fixed_stands dependent packed start 24 _ (omega arith) (omega arith)
-list_stands dependent packed start PatternHighs is =
+list_stands dependent packed start OrderHighs is =
     let each = lengths dependent packed start in
     let sums = field_sums packed in
     fixed_stands dependent packed start 25 _ (omega arith) (omega arith)
+list_stands dependent packed start PatternLows is =
+    let each = lengths dependent packed start in
+    let sums = field_sums packed in
+    fixed_stands dependent packed start 26 _ (omega arith) (omega arith)
+list_stands dependent packed start PatternHighs is =
+    let each = lengths dependent packed start in
+    let sums = field_sums packed in
+    fixed_stands dependent packed start 27 _ (omega arith) (omega arith)
 list_stands dependent packed start (OrderBytes subtune channel) is =
     let place : label_place dependent packed (OrderBytes subtune channel)
     ≡ label_place dependent packed (OrderBytes subtune channel) + 0 = omega arith in

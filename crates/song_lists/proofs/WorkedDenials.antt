@@ -16,7 +16,8 @@ use Rattle.song_lists.specs.Marks.{marked}
 use Rattle.song_lists.specs.DataLists.{frequency_lows, frequency_highs, fields_before, data_bytes, HasLines}
 use Rattle.song_lists.specs.ListLaws.{lists_size, IsListLabel}
 use Rattle.song_lists.specs.WorkedLists.{IsSmallSong, plain_bytes, kept_bytes, plain_lines, kept_lines}
-use Rattle.song_lists.specs.WorkedLists.{plain_lines_with, kept_lines_with, last_lines, last_lines_with, frequency_bytes}
+use Rattle.song_lists.specs.WorkedLists.{plain_lines_with, kept_lines_with, last_lines, last_lines_with}
+use Rattle.song_lists.specs.WorkedLists.{frequency_bytes}
 use Rattle.song_lists.specs.WorkedLists.{IsSmallSongWith, all_read, delay_read, from}
 use Rattle.song_lists.specs.WorkedLists.{OtherListingsAreNot, OtherListingsAre}
 use Rattle.song_lists.proofs.Naming.{times_named, item_names, named_once}
@@ -69,25 +70,25 @@ unnamed dependent packed start label lines is none has =
 
 -- ---- the song's sizes and bytes
 
-pub plain_size : (packed : PackedSong) → IsSmallSong packed → lists_size false packed ≡ 60
+pub plain_size : (packed : PackedSong) → IsSmallSong packed → lists_size false packed ≡ 59
 plain_size packed is =
     rw (is.subtunes, is.patterns, is.instruments, is.wave, is.pulse, is.filter, is.speed, is.facts, is.numbers) refl
 
-pub kept_size : (packed : PackedSong) → IsSmallSong packed → lists_size true packed ≡ 66
+pub kept_size : (packed : PackedSong) → IsSmallSong packed → lists_size true packed ≡ 65
 kept_size packed is =
     rw (is.subtunes, is.patterns, is.instruments, is.wave, is.pulse, is.filter, is.speed, is.facts, is.numbers) refl
 
-elsewhere_byte : (packed : PackedSong) → IsSmallSong packed → get_or (data_bytes false packed 0x1FCD) 33 0 ≡ 0xF6
+elsewhere_byte : (packed : PackedSong) → IsSmallSong packed → get_or (data_bytes false packed 0x1FCE) 32 0 ≡ 0xF6
 unfolding frequency_lows frequency_highs freq fields_before instrument_at
 elsewhere_byte packed is =
     rw (is.subtunes, is.patterns, is.instruments, is.wave, is.pulse, is.filter, is.speed, is.facts) refl
 
 plain_byte : (packed : PackedSong) (k : ℕ) → IsSmallSong packed →
-    get_or (data_bytes false packed 0x1FCC) k 0 ≡ get_or plain_bytes k 0
+    get_or (data_bytes false packed 0x1FCD) k 0 ≡ get_or plain_bytes k 0
 plain_byte packed k is = ap (λ (bytes : List ℕ). get_or bytes k 0) (plain_bytes_are packed is)
 
 kept_byte : (packed : PackedSong) (k : ℕ) → IsSmallSong packed →
-    get_or (data_bytes true packed 0x1FC6) k 0 ≡ get_or kept_bytes k 0
+    get_or (data_bytes true packed 0x1FC7) k 0 ≡ get_or kept_bytes k 0
 kept_byte packed k is = ap (λ (bytes : List ℕ). get_or bytes k 0) (kept_bytes_are packed is)
 
 front_size : (packed : PackedSong) → IsSmallSongWith all_read (from 57 2) packed → lists_size false packed ≡ 61
@@ -100,35 +101,42 @@ fields_size packed is =
 
 other_listings_are_not : (packed : PackedSong) → IsSmallSong packed → OtherListingsAreNot packed
 other_listings_are_not packed is = record {
-  without = other_size true packed 0x1FCC 66 plain_lines (kept_size packed is) refl;
-  with_speeds = other_size false packed 0x1FC6 60 kept_lines (plain_size packed is) refl;
-  elsewhere = other_byte false packed 0x1FCD 33 0xF6 plain_lines (elsewhere_byte packed is) refl;
-  delay = other_byte false packed 0x1FCC 4 0xE2 (plain_lines_with SLIDES_LOW (last_lines_with 0x02 0xFF 0x02 0xFF frequency_bytes))
+  without = other_size true packed 0x1FCD 65 plain_lines (kept_size packed is) refl;
+  with_speeds = other_size false packed 0x1FC7 59 kept_lines (plain_size packed is) refl;
+  elsewhere = other_byte false packed 0x1FCE 32 0xF6 plain_lines (elsewhere_byte packed is) refl;
+  delay = other_byte false packed 0x1FCD 4 0xE2
+      (plain_lines_with SLIDES_LOW (last_lines_with 0x02 0xFF 0x02 0x02 0xFF frequency_bytes))
       (plain_byte packed 4 is) refl;
-  no_vibrato = other_byte false packed 0x1FCC 26 0xFF
-      (plain_lines_with SLIDES_LOW (last_lines_with 0xE2 0x00 0x02 0xFF frequency_bytes)) (plain_byte packed 26 is) refl;
-  timer = other_byte false packed 0x1FCC 32 0x02
-      (plain_lines_with SLIDES_LOW (last_lines_with 0xE2 0xFF 0x82 0xFF frequency_bytes)) (plain_byte packed 32 is) refl;
-  pattern = other_byte false packed 0x1FCC 39 0xFF (plain_lines_with SLIDES_LOW (last_lines_with 0xE2 0xFF 0x02 0x00 frequency_bytes))
-      (plain_byte packed 39 is) refl;
-  period = other_byte true packed 0x1FC6 9 0x03 (kept_lines_with 0x83) (kept_byte packed 9 is) refl;
-  late = other_byte false packed 0x1FCC 54 0xB4
+  no_vibrato = other_byte false packed 0x1FCD 26 0xFF
+      (plain_lines_with SLIDES_LOW (last_lines_with 0xE2 0x00 0x02 0x02 0xFF frequency_bytes))
+      (plain_byte packed 26 is) refl;
+  timer = other_byte false packed 0x1FCD 30 0x02
+      (plain_lines_with SLIDES_LOW (last_lines_with 0xE2 0xFF 0x82 0x02 0xFF frequency_bytes))
+      (plain_byte packed 30 is) refl;
+  envelope = other_byte false packed 0x1FCD 31 0x02
+      (plain_lines_with SLIDES_LOW (last_lines_with 0xE2 0xFF 0x02 0x03 0xFF frequency_bytes))
+      (plain_byte packed 31 is) refl;
+  pattern = other_byte false packed 0x1FCD 38 0xFF
+      (plain_lines_with SLIDES_LOW (last_lines_with 0xE2 0xFF 0x02 0x02 0x00 frequency_bytes))
+      (plain_byte packed 38 is) refl;
+  period = other_byte true packed 0x1FC7 9 0x03 (kept_lines_with 0x83) (kept_byte packed 9 is) refl;
+  late = other_byte false packed 0x1FCD 53 0xB4
       (plain_lines_with SLIDES_LOW
-      (last_lines_with 0xE2 0xFF 0x02 0xFF (0x38 ∷ 0xC4 ∷ 0x59 ∷ 0x09 ∷ 0x09 ∷ 0x0A ∷ [])))
-      (plain_byte packed 54 is) refl;
-  short = other_size false packed 0x1FCC 60
-      (plain_lines_with SLIDES_LOW (last_lines_with 0xE2 0xFF 0x02 0xFF (0xB4 ∷ 0x38 ∷ 0x08 ∷ 0x09 ∷ [])))
+      (last_lines_with 0xE2 0xFF 0x02 0x02 0xFF (0x38 ∷ 0xC4 ∷ 0x59 ∷ 0x09 ∷ 0x09 ∷ 0x0A ∷ [])))
+      (plain_byte packed 53 is) refl;
+  short = other_size false packed 0x1FCD 59
+      (plain_lines_with SLIDES_LOW (last_lines_with 0xE2 0xFF 0x02 0x02 0xFF (0xB4 ∷ 0x38 ∷ 0x08 ∷ 0x09 ∷ [])))
       (plain_size packed is) refl;
-  label = unnamed false packed 0x1FCC SLIDES_LOW (plain_lines_with SPEED_RIGHTS last_lines)
+  label = unnamed false packed 0x1FCD SLIDES_LOW (plain_lines_with SPEED_RIGHTS last_lines)
       (inr (omega arith, omega arith)) refl;
 }
 
 pub other_listings_are : OtherListingsAre
 other_listings_are = record {
   small = other_listings_are_not;
-  gap = λ packed is. other_size false packed 0x1FCC 61
-      (plain_lines_with SLIDES_LOW (last_lines_with 0xE2 0xFF 0x02 0xFF (0x46 ∷ 0x04 ∷ 0x1D ∷ 0x1F ∷ [])))
+  gap = λ packed is. other_size false packed 0x1FCD 61
+      (plain_lines_with SLIDES_LOW (last_lines_with 0xE2 0xFF 0x02 0x02 0xFF (0x46 ∷ 0x04 ∷ 0x1D ∷ 0x1F ∷ [])))
       (front_size packed is) refl;
-  fields = λ packed is. other_size false packed 0x1FCC 51 plain_lines (fields_size packed is) refl;
-  addresses = λ packed is. other_size false packed 0x1FCC 54 plain_lines (one_subtune_is packed is).size refl;
+  fields = λ packed is. other_size false packed 0x1FCD 51 plain_lines (fields_size packed is) refl;
+  addresses = λ packed is. other_size false packed 0x1FCD 53 plain_lines (one_subtune_is packed is).size refl;
 }

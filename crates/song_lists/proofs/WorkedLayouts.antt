@@ -10,8 +10,8 @@ use Rattle.packed_form.specs.declared.packed_songs.PackedSong.{PackedSong}
 use Rattle.asm6502.specs.Standing.{BytesStand}
 use Rattle.scopes.specs.Desk.{Layout}
 use Rattle.player_memory.specs.declared.labels.TheConstants.{FREQUENCY_LOWS, SLIDES_LOW, PATTERNS}
-use Rattle.player_memory.specs.SongLists.{FrequencyLows, FrequencyHighs, Periods, OneTimer, PatternBytes, HasSongLists}
-use Rattle.player_memory.specs.SongLists.{list_byte}
+use Rattle.player_memory.specs.SongLists.{FrequencyLows, FrequencyHighs, Periods, OneTimer, EnvelopeFrom, PatternBytes}
+use Rattle.player_memory.specs.SongLists.{list_byte, has_envelope_from, HasSongLists}
 use Rattle.song_lists.specs.declared.marks.Mark.{Mark}
 use Rattle.song_lists.specs.DataLists.{data_bytes, data_marks, IsDataLayout}
 use Rattle.song_lists.specs.ListLaws.{IsListRoom, IsDataLabel}
@@ -82,10 +82,10 @@ bytes_standing start bytes whole are = record {
 
 -- ---- the small song's
 
-plain_room : (packed : PackedSong) → IsSmallSong packed → IsListRoom plain_layout packed 0x1FCC
+plain_room : (packed : PackedSong) → IsSmallSong packed → IsListRoom plain_layout packed 0x1FCD
 plain_room packed is =
     let size = plain_size packed is in record {
-      laid = data_laid plain_layout false packed 0x1FCC plain_marks (plain_marks_are packed is) refl;
+      laid = data_laid plain_layout false packed 0x1FCD plain_marks (plain_marks_are packed is) refl;
       from = omega arith;
       to = omega arith;
       variables = λ label few. (let e = lt-ltb label 113 few in rw e (inr (omega arith)));
@@ -93,10 +93,10 @@ plain_room packed is =
       reads = λ place inside. refl;
     }
 
-kept_room : (packed : PackedSong) → IsSmallSong packed → IsListRoom kept_layout packed 0x1FC6
+kept_room : (packed : PackedSong) → IsSmallSong packed → IsListRoom kept_layout packed 0x1FC7
 kept_room packed is =
     let size = kept_size packed is in record {
-      laid = data_laid kept_layout true packed 0x1FC6 kept_marks (kept_marks_are packed is) refl;
+      laid = data_laid kept_layout true packed 0x1FC7 kept_marks (kept_marks_are packed is) refl;
       from = omega arith;
       to = omega arith;
       variables = λ label few. (let e = lt-ltb label 113 few in rw e (inr (omega arith)));
@@ -110,12 +110,12 @@ small_layouts_are_worked packed is = record {
   kept_marks_are = kept_marks_are packed is;
   plain = plain_room packed is;
   kept = kept_room packed is;
-  plain_laid = lists_are_laid plain_layout packed 0x1FCC (plain_room packed is);
-  kept_laid = lists_are_laid kept_layout packed 0x1FC6 (kept_room packed is);
-  plain_lists = song_lists_stand plain_layout packed 0x1FCC plain_memory (plain_room packed is)
-      (bytes_standing 0x1FCC plain_bytes (data_bytes false packed 0x1FCC) (plain_bytes_are packed is));
-  kept_lists = song_lists_stand kept_layout packed 0x1FC6 kept_memory (kept_room packed is)
-      (bytes_standing 0x1FC6 kept_bytes (data_bytes true packed 0x1FC6) (kept_bytes_are packed is));
+  plain_laid = lists_are_laid plain_layout packed 0x1FCD (plain_room packed is);
+  kept_laid = lists_are_laid kept_layout packed 0x1FC7 (kept_room packed is);
+  plain_lists = song_lists_stand plain_layout packed 0x1FCD plain_memory (plain_room packed is)
+      (bytes_standing 0x1FCD plain_bytes (data_bytes false packed 0x1FCD) (plain_bytes_are packed is));
+  kept_lists = song_lists_stand kept_layout packed 0x1FC7 kept_memory (kept_room packed is)
+      (bytes_standing 0x1FC7 kept_bytes (data_bytes true packed 0x1FC7) (kept_bytes_are packed is));
 }
 
 -- ---- memories that don't have the lists
@@ -125,29 +125,39 @@ unfolding table_row
 period_is packed is = rw is.speed refl
 
 -- so the period that has bit 7 isn't it
-other_period : (packed : PackedSong) (at : ℕ → ℕ) → IsSmallSong packed → nat_eq (at 0x1FCF) 3 ≡ false →
+other_period : (packed : PackedSong) (at : ℕ → ℕ) → IsSmallSong packed → nat_eq (at 0x1FD0) 3 ≡ false →
     ¬ HasSongLists kept_layout packed at
 other_period packed at is other has =
     let count = ap length is.speed in
-    eqb-false (at 0x1FCF) 3 other
+    eqb-false (at 0x1FD0) 3 other
     ((has.lists Periods 1 refl (record { from = omega arith; to = omega arith })).is ∙ period_is packed is)
 
-other_slide : (packed : PackedSong) (at : ℕ → ℕ) → nat_eq (at 0x1FCA) 0 ≡ false →
+other_slide : (packed : PackedSong) (at : ℕ → ℕ) → nat_eq (at 0x1FCB) 0 ≡ false →
     ¬ HasSongLists kept_layout packed at
 unfolding table_row
 other_slide packed at other has =
-    eqb-false (at 0x1FCA) 0 other (has.slides.low refl 0 (omega arith) (omega arith))
+    eqb-false (at 0x1FCB) 0 other (has.slides.low refl 0 (omega arith) (omega arith))
 
 timer_is : (packed : PackedSong) → IsSmallSong packed → list_byte plain_layout packed OneTimer 0 ≡ 2
 unfolding instrument_at
 timer_is packed is = rw is.instruments refl
 
-other_timer : (packed : PackedSong) (at : ℕ → ℕ) → IsSmallSong packed → nat_eq (at 0x1FEC) 2 ≡ false →
+other_timer : (packed : PackedSong) (at : ℕ → ℕ) → IsSmallSong packed → nat_eq (at 0x1FEB) 2 ≡ false →
     ¬ HasSongLists plain_layout packed at
 other_timer packed at is other has =
     let one : packed.facts.own_timer ≡ false = rw is.facts refl in
-    eqb-false (at 0x1FEC) 2 other
+    eqb-false (at 0x1FEB) 2 other
     ((has.lists OneTimer 0 one (record { from = omega arith; to = omega arith })).is ∙ timer_is packed is)
+
+envelope_is : (packed : PackedSong) → IsSmallSong packed → list_byte plain_layout packed EnvelopeFrom 0 ≡ 2
+envelope_is packed is = rw is.instruments refl
+
+other_envelope : (packed : PackedSong) (at : ℕ → ℕ) → IsSmallSong packed → nat_eq (at 0x1FEC) 2 ≡ false →
+    ¬ HasSongLists plain_layout packed at
+other_envelope packed at is other has =
+    let held : has_envelope_from packed ≡ true = rw is.facts refl in
+    eqb-false (at 0x1FEC) 2 other
+    ((has.lists EnvelopeFrom 0 held (record { from = omega arith; to = omega arith })).is ∙ envelope_is packed is)
 
 last_is : (packed : PackedSong) → IsSmallSong packed → list_byte plain_layout packed (PatternBytes 0) 1 ≡ 0
 last_is packed is = rw is.patterns refl
@@ -182,19 +192,19 @@ other_layouts_are_not packed is =
     let kept = kept_marks_are packed is in
     let size = plain_size packed is in record {
       label = λ room.
-          other_label (with_label SLIDES_LOW 0x2000 plain_layout) false packed 0x1FCC plain_marks 32 plain (omega arith)
+          other_label (with_label SLIDES_LOW 0x2000 plain_layout) false packed 0x1FCD plain_marks 32 plain (omega arith)
           refl room.laid;
       text = λ room.
-          other_label (with_label PATTERNS 0x2001 plain_layout) false packed 0x1FCC plain_marks 37 plain (omega arith)
+          other_label (with_label PATTERNS 0x2001 plain_layout) false packed 0x1FCD plain_marks 39 plain (omega arith)
           refl room.laid;
       frequencies = λ room.
-          other_label (with_label FREQUENCY_LOWS 0x2002 plain_layout) false packed 0x1FCC plain_marks 0 plain (omega arith)
+          other_label (with_label FREQUENCY_LOWS 0x2002 plain_layout) false packed 0x1FCD plain_marks 0 plain (omega arith)
           refl room.laid;
       lists = λ room.
-          other_label (laid_out true 0x1FCC plain_marks) true packed 0x1FCC kept_marks 32 kept (omega arith) refl
+          other_label (laid_out true 0x1FCD plain_marks) true packed 0x1FCD kept_marks 32 kept (omega arith) refl
           room.laid;
       place = λ room.
-          other_label plain_layout false packed 0x1FCD plain_marks 0 plain (omega arith) refl room.laid;
+          other_label plain_layout false packed 0x1FCE plain_marks 0 plain (omega arith) refl room.laid;
       low = λ room. (let from = room.from in omega arith);
       high = λ room. (let to = room.to in omega arith);
       first_variable = λ room.
@@ -210,12 +220,13 @@ other_layouts_are_not packed is =
       pointer = λ room. (let at = room.pointer in omega arith);
       unread = λ room.
           let may = room.reads 0x2007 (record { from = omega arith; to = omega arith }) in absurd (cc);
-      period = other_period packed (with_byte 0x1FCF 0x83 kept_memory) is refl;
-      slide = other_slide packed (with_byte 0x1FCA 0x01 kept_memory) refl;
-      timer = other_timer packed (with_byte 0x1FEC 0x82 plain_memory) is refl;
+      period = other_period packed (with_byte 0x1FD0 0x83 kept_memory) is refl;
+      slide = other_slide packed (with_byte 0x1FCB 0x01 kept_memory) refl;
+      timer = other_timer packed (with_byte 0x1FEB 0x82 plain_memory) is refl;
+      envelope = other_envelope packed (with_byte 0x1FEC 0x03 plain_memory) is refl;
       last = other_last packed (with_byte 0x2001 0x01 plain_memory) is refl;
       frequency = other_frequency packed (with_byte 0x2007 0x08 plain_memory) is refl;
-      shorter = other_period packed (standing 0x1FC6 plain_bytes) is refl;
+      shorter = other_period packed (standing 0x1FC7 plain_bytes) is refl;
     }
 
 -- ---- layouts that the lists don't decide so, and places
@@ -225,7 +236,7 @@ others_are_not_laid packed is =
     let subtunes = ap length is.subtunes in
     let patterns = ap length is.patterns in
     let listed = frequencies_are packed is in record {
-      next = λ laid. absurd (eqb-false 0x2000 0x1FD0 refl laid.next.wave_lefts);
+      next = λ laid. absurd (eqb-false 0x2000 0x1FD1 refl laid.next.wave_lefts);
       slides = λ laid. elim ((laid.slides refl).apart) [
         | inl front ↦ omega arith
         | inr behind ↦ omega arith
@@ -234,6 +245,8 @@ others_are_not_laid packed is =
           let from = laid.lists FrequencyLows 36 tt (record { from = omega arith; to = omega arith }) in omega arith;
       timer = λ laid. (let below = laid.timer in omega arith);
       wave = λ laid. (let below = laid.wave in omega arith);
+      gates = λ laid. (let below = laid.gates in omega arith);
+      envelopes = λ laid. (let below = laid.envelopes in omega arith);
       order = λ laid. (let below = laid.orders 0 (omega arith) in omega arith);
       pattern = λ laid. (let from = (laid.patterns 0 (omega arith)).from in omega arith);
     }
@@ -266,7 +279,7 @@ small_places_are packed is =
 -- ---- labels and lines
 
 -- a label that is of none of three stretches
-no_label : (label : ℕ) → (label < 128) ⊎ (162 ≤ label) → (label < 256) ⊎ (720 ≤ label) → ¬ IsDataLabel label
+no_label : (label : ℕ) → (label < 128) ⊎ (164 ≤ label) → (label < 256) ⊎ (720 ≤ label) → ¬ IsDataLabel label
 no_label label low high (inl (inl list)) = elim low [
   | inl front ↦ (let from = list.0 in omega arith)
   | inr behind ↦ (let to = list.1 in omega arith)
@@ -283,10 +296,11 @@ no_label label low high (inr text) = elim high [
 pub labels_are_worked : LabelsAreWorked
 labels_are_worked = record {
   last_list = inl (omega arith, omega arith);
-  last_slide = inr (omega arith, omega arith);
+  first_slide = inr (omega arith, omega arith);
+  last_holder = inr (omega arith, omega arith);
   last_pattern = inr (omega arith, omega arith);
   variable = no_label 127 (inl (omega arith)) (inl (omega arith));
-  behind_slides = no_label 162 (inr (omega arith)) (inl (omega arith));
+  behind_holders = no_label 164 (inr (omega arith)) (inl (omega arith));
   before_orders = no_label 255 (inr (omega arith)) (inl (omega arith));
   behind_patterns = no_label 720 (inr (omega arith)) (inr (omega arith));
   no_list = λ list. elim list [

@@ -1,19 +1,20 @@
 -- The lists of a small song, computed, and listings that aren't of it.
 use Rattle.std.proofs.Common.{◌≡◌, ℕ, zero, suc, ◌<◌, ◌≤◌, ◌&&◌, Bool, true, false, List, [], ◌∷◌}
-use Rattle.std.proofs.Common.{length, get_or, nat_le, nat_lt, refl, sym, subst, arith}
+use Rattle.std.proofs.Common.{length, get_or, nat_le, nat_lt, refl, sym, ap, ◌∙◌, subst, arith}
 use Rattle.std.specs.Prelude.{IsPermutation}
 use Rattle.std.specs.List.Sorted.{IsNonDecreasingBy, SwapsInRange}
-use Rattle.std.proofs.lemmas.Bool.{leb-true, ltb-true, and_parts}
+use Rattle.std.proofs.lemmas.Bool.{leb-true, ltb-true, and_parts, eqb-false}
 use Rattle.packed_form.specs.declared.packed_songs.PackedSong.{PackedSong}
 use Rattle.song_model.specs.LookUp.{instrument_at}
 use Rattle.play_model.specs.Freq.{freq}
 use Rattle.song_lists.specs.declared.marks.Mark.{Mark}
 use Rattle.song_lists.specs.Marks.{mark_at, marked}
 use Rattle.song_lists.specs.DataLists.{frequency_lows, frequency_highs, fields_before, data_bytes, data_marks, HasLines}
-use Rattle.song_lists.specs.DataLists.{order_places}
+use Rattle.song_lists.specs.DataLists.{order_places, gate_from_bytes, envelope_from_bytes}
 use Rattle.song_lists.specs.WorkedLists.{FewAreInFront, NoneIsListed, LastAreListed, FrequenciesAreWorked, from}
 use Rattle.song_lists.specs.WorkedLists.{all_read, delay_read, timer_read, FewAreRead, OneWaveIsRead, FewerAreInFront}
 use Rattle.song_lists.specs.WorkedLists.{FewFieldsAreWorked, OneSubtuneIs, one_alone}
+use Rattle.song_lists.specs.WorkedLists.{both_held, HoldersAreWorked, TheFirstHolds, OneIsHeld, HoldersAre}
 use Rattle.song_lists.specs.WorkedLists.{IsSmallSongWith, IsSmallSong, plain_bytes, kept_bytes, plain_lines}
 use Rattle.song_lists.specs.WorkedLists.{kept_lines, SmallListsAreWorked}
 use Rattle.song_lists.specs.WorkedLayouts.{plain_marks, kept_marks}
@@ -103,10 +104,49 @@ fewer_are_in_front packed is = record {
 pub few_fields_are_worked : FewFieldsAreWorked
 few_fields_are_worked = record { few = few_are_read; wave = one_wave_is_read; front = fewer_are_in_front }
 
+-- ---- what its instruments hold
+
+both_are_held : (packed : PackedSong) → IsSmallSongWith both_held (from 36 3) packed → HoldersAreWorked packed
+unfolding fields_before instrument_at
+both_are_held packed is = record {
+  both = rw is.facts refl;
+  places = rw (is.instruments, is.wave, is.pulse, is.filter, is.speed, is.facts) refl;
+  size = rw (is.subtunes, is.patterns, is.instruments, is.wave, is.pulse, is.filter, is.speed, is.facts, is.numbers)
+      refl;
+  all = rw is.facts refl;
+  none = rw is.facts refl;
+  no_timers = rw is.facts refl;
+  other = λ two. (let three : gate_from_bytes packed ≡ 0x03 ∷ [] = rw (is.instruments, is.facts) refl in
+      absurd (eqb-false 3 2 refl (ap (λ (bytes : List ℕ). get_or bytes 0 0) (sym three ∙ two))));
+}
+
+the_first_holds : (packed : PackedSong) → IsSmallSongWith (record both_held { first_holds = true }) (from 36 3) packed →
+    TheFirstHolds packed
+unfolding fields_before instrument_at
+the_first_holds packed is = record {
+  shared = rw is.facts refl;
+  timers = rw is.facts refl;
+  places = rw (is.instruments, is.wave, is.pulse, is.filter, is.speed, is.facts) refl;
+  size = rw (is.subtunes, is.patterns, is.instruments, is.wave, is.pulse, is.filter, is.speed, is.facts, is.numbers)
+      refl;
+  other = λ two. (let none : envelope_from_bytes packed ≡ [] = rw is.facts refl in
+      absurd (eqb-false 0 2 refl (ap (λ (bytes : List ℕ). get_or bytes 0 0) (sym none ∙ two))));
+}
+
+one_is_held : OneIsHeld
+unfolding instrument_at
+one_is_held = record {
+  gate = λ packed is. rw is.facts refl;
+  none = λ packed is. rw (is.instruments, is.facts) refl;
+}
+
+pub holders_are : HoldersAre
+holders_are = record { both = both_are_held; first = the_first_holds; one = one_is_held }
+
 -- ---- addresses that aren't listed
 
 alone_places_are : (packed : PackedSong) → IsSmallSongWith one_alone (from 36 3) packed →
-    order_places false packed ≡ 35 ∷ 38 ∷ 42 ∷ []
+    order_places false packed ≡ 34 ∷ 37 ∷ 41 ∷ []
 unfolding fields_before
 alone_places_are packed is =
     rw (is.subtunes, is.patterns, is.instruments, is.wave, is.pulse, is.filter, is.speed, is.facts) refl
@@ -121,9 +161,9 @@ one_subtune_is packed is = record {
   pattern_low = rw (is.instruments, is.wave, is.pulse, is.filter, is.speed, is.facts) refl;
   pattern_high = rw (is.patterns, is.instruments, is.wave, is.pulse, is.filter, is.speed, is.facts) refl;
   order = rw (is.subtunes, is.patterns, is.instruments, is.wave, is.pulse, is.filter, is.speed, is.facts) refl;
-  first = are_orders false packed 0x1FD2 35 38 42 (alone_places_are packed is);
+  first = are_orders false packed 0x1FD3 34 37 41 (alone_places_are packed is);
   other =
-      other_order false packed 0x1FD2 2 (0x1FF5 ∷ 0x1FF8 ∷ 0x1FFD ∷ []) (35 ∷ 38 ∷ 42 ∷ [])
+      other_order false packed 0x1FD3 2 (0x1FF5 ∷ 0x1FF8 ∷ 0x1FFD ∷ []) (34 ∷ 37 ∷ 41 ∷ [])
       (alone_places_are packed is) (omega arith) refl;
   size = rw (is.subtunes, is.patterns, is.instruments, is.wave, is.pulse, is.filter, is.speed, is.facts, is.numbers)
       refl;
@@ -135,34 +175,34 @@ abbrev plain_sorted : List Mark
 plain_sorted =
     mark_at 132 0 ∷ mark_at 160 0 ∷ mark_at 133 2 ∷ mark_at 134 2 ∷ mark_at 161 2 ∷ mark_at 135 3 ∷ mark_at 136 4
     ∷ mark_at 137 7 ∷ mark_at 138 8 ∷ mark_at 139 11 ∷ mark_at 140 12 ∷ mark_at 141 12 ∷ mark_at 142 13
-    ∷ mark_at 144 13 ∷ mark_at 145 13 ∷ mark_at 143 14 ∷ mark_at 146 15 ∷ mark_at 147 17 ∷ mark_at 128 18
-    ∷ mark_at 129 19 ∷ mark_at 148 19 ∷ mark_at 130 21 ∷ mark_at 149 21 ∷ mark_at 131 22 ∷ mark_at 150 23
-    ∷ mark_at 151 25 ∷ mark_at 152 27 ∷ mark_at 153 29 ∷ mark_at 158 32 ∷ mark_at 154 33 ∷ mark_at 159 33
-    ∷ mark_at 155 36 ∷ mark_at 156 39 ∷ mark_at 157 40 ∷ mark_at 256 41 ∷ mark_at 257 44 ∷ mark_at 258 48
-    ∷ mark_at 512 52 ∷ []
+    ∷ mark_at 144 13 ∷ mark_at 145 13 ∷ mark_at 143 14 ∷ mark_at 146 15 ∷ mark_at 128 17 ∷ mark_at 147 17
+    ∷ mark_at 129 18 ∷ mark_at 148 19 ∷ mark_at 130 20 ∷ mark_at 131 21 ∷ mark_at 149 21 ∷ mark_at 150 23
+    ∷ mark_at 151 25 ∷ mark_at 152 27 ∷ mark_at 153 27 ∷ mark_at 158 30 ∷ mark_at 159 31 ∷ mark_at 162 31
+    ∷ mark_at 163 31 ∷ mark_at 154 32 ∷ mark_at 155 35 ∷ mark_at 156 38 ∷ mark_at 157 39 ∷ mark_at 256 40
+    ∷ mark_at 257 43 ∷ mark_at 258 47 ∷ mark_at 512 51 ∷ []
 
 -- exchanges that bring them into the order of their numbers
 abbrev plain_exchanges : List (ℕ × ℕ)
 plain_exchanges =
-    (31, 32) ∷ (30, 31) ∷ (29, 33) ∷ (28, 30) ∷ (27, 32) ∷ (26, 33) ∷ (25, 32) ∷ (24, 33) ∷ (23, 32) ∷ (22, 33)
-    ∷ (21, 33) ∷ (19, 32) ∷ (18, 33) ∷ (17, 19) ∷ (16, 18) ∷ (14, 17) ∷ (13, 16) ∷ (12, 14) ∷ (11, 13) ∷ (10, 12)
-    ∷ (9, 11) ∷ (8, 10) ∷ (7, 9) ∷ (6, 8) ∷ (5, 7) ∷ (4, 33) ∷ (3, 6) ∷ (2, 5) ∷ (1, 32) ∷ (0, 4) ∷ []
+    (32, 33) ∷ (31, 35) ∷ (30, 34) ∷ (29, 31) ∷ (28, 30) ∷ (27, 32) ∷ (26, 33) ∷ (25, 32) ∷ (24, 33) ∷ (23, 32)
+    ∷ (22, 33) ∷ (21, 32) ∷ (19, 32) ∷ (18, 19) ∷ (17, 33) ∷ (16, 18) ∷ (14, 17) ∷ (13, 16) ∷ (12, 14) ∷ (11, 13)
+    ∷ (10, 12) ∷ (9, 11) ∷ (8, 10) ∷ (7, 9) ∷ (6, 8) ∷ (5, 7) ∷ (4, 33) ∷ (3, 6) ∷ (2, 5) ∷ (1, 32) ∷ (0, 4) ∷ []
 
 abbrev kept_sorted : List Mark
 kept_sorted =
     mark_at 132 0 ∷ mark_at 133 2 ∷ mark_at 160 4 ∷ mark_at 161 6 ∷ mark_at 134 8 ∷ mark_at 135 9 ∷ mark_at 136 10
     ∷ mark_at 137 13 ∷ mark_at 138 14 ∷ mark_at 139 17 ∷ mark_at 140 18 ∷ mark_at 141 18 ∷ mark_at 142 19
-    ∷ mark_at 144 19 ∷ mark_at 145 19 ∷ mark_at 143 20 ∷ mark_at 146 21 ∷ mark_at 147 23 ∷ mark_at 128 24
-    ∷ mark_at 129 25 ∷ mark_at 148 25 ∷ mark_at 130 27 ∷ mark_at 149 27 ∷ mark_at 131 28 ∷ mark_at 150 29
-    ∷ mark_at 151 31 ∷ mark_at 152 33 ∷ mark_at 153 35 ∷ mark_at 158 38 ∷ mark_at 154 39 ∷ mark_at 159 39
-    ∷ mark_at 155 42 ∷ mark_at 156 45 ∷ mark_at 157 46 ∷ mark_at 256 47 ∷ mark_at 257 50 ∷ mark_at 258 54
-    ∷ mark_at 512 58 ∷ []
+    ∷ mark_at 144 19 ∷ mark_at 145 19 ∷ mark_at 143 20 ∷ mark_at 146 21 ∷ mark_at 128 23 ∷ mark_at 147 23
+    ∷ mark_at 129 24 ∷ mark_at 148 25 ∷ mark_at 130 26 ∷ mark_at 131 27 ∷ mark_at 149 27 ∷ mark_at 150 29
+    ∷ mark_at 151 31 ∷ mark_at 152 33 ∷ mark_at 153 33 ∷ mark_at 158 36 ∷ mark_at 159 37 ∷ mark_at 162 37
+    ∷ mark_at 163 37 ∷ mark_at 154 38 ∷ mark_at 155 41 ∷ mark_at 156 44 ∷ mark_at 157 45 ∷ mark_at 256 46
+    ∷ mark_at 257 49 ∷ mark_at 258 53 ∷ mark_at 512 57 ∷ []
 
 abbrev kept_exchanges : List (ℕ × ℕ)
 kept_exchanges =
-    (32, 33) ∷ (31, 33) ∷ (30, 31) ∷ (29, 32) ∷ (28, 30) ∷ (27, 33) ∷ (26, 32) ∷ (25, 33) ∷ (24, 32) ∷ (23, 33)
-    ∷ (22, 32) ∷ (21, 32) ∷ (18, 19) ∷ (17, 19) ∷ (16, 18) ∷ (14, 17) ∷ (13, 16) ∷ (12, 14) ∷ (11, 13) ∷ (10, 12)
-    ∷ (9, 11) ∷ (8, 10) ∷ (7, 9) ∷ (6, 8) ∷ (5, 7) ∷ (4, 6) ∷ (3, 33) ∷ (2, 32) ∷ (1, 5) ∷ (0, 4) ∷ []
+    (32, 33) ∷ (31, 35) ∷ (30, 34) ∷ (29, 31) ∷ (28, 30) ∷ (27, 32) ∷ (26, 33) ∷ (25, 32) ∷ (24, 33) ∷ (23, 32)
+    ∷ (22, 33) ∷ (21, 32) ∷ (18, 19) ∷ (16, 18) ∷ (14, 17) ∷ (13, 16) ∷ (12, 14) ∷ (11, 13) ∷ (10, 12) ∷ (9, 11)
+    ∷ (8, 10) ∷ (7, 9) ∷ (6, 8) ∷ (5, 7) ∷ (4, 6) ∷ (3, 33) ∷ (2, 32) ∷ (1, 5) ∷ (0, 4) ∷ []
 
 abbrev are_below : ℕ → List (ℕ × ℕ) → Bool
 are_below n [] = true
@@ -176,10 +216,10 @@ in_range n (pair ∷ pairs) test =
     (ltb-true pair.0 n first.0, ltb-true pair.1 n second.0, in_range n pairs second.1)
 
 plain_are_the_same : IsPermutation plain_marks plain_sorted
-plain_are_the_same = record { moves = plain_exchanges; below = in_range 38 plain_exchanges refl; is = refl }
+plain_are_the_same = record { moves = plain_exchanges; below = in_range 40 plain_exchanges refl; is = refl }
 
 kept_are_the_same : IsPermutation kept_marks kept_sorted
-kept_are_the_same = record { moves = kept_exchanges; below = in_range 38 kept_exchanges refl; is = refl }
+kept_are_the_same = record { moves = kept_exchanges; below = in_range 40 kept_exchanges refl; is = refl }
 
 -- ---- marks that rise
 
@@ -210,7 +250,7 @@ from_rises from (first ∷ marks) rise (suc i) (suc j) d le inside =
 
 -- ---- the song's bytes and marks
 
-pub plain_bytes_are : (packed : PackedSong) → IsSmallSong packed → data_bytes false packed 0x1FCC ≡ plain_bytes
+pub plain_bytes_are : (packed : PackedSong) → IsSmallSong packed → data_bytes false packed 0x1FCD ≡ plain_bytes
 unfolding frequency_lows frequency_highs freq fields_before instrument_at
 plain_bytes_are packed is =
     rw (is.subtunes, is.patterns, is.instruments, is.wave, is.pulse, is.filter, is.speed, is.facts, is.numbers) refl
@@ -223,7 +263,7 @@ plain_marks_are packed is =
 plain_lines_are : plain_lines ≡ marked 0 plain_sorted plain_bytes
 plain_lines_are = refl
 
-plain_has_lines : (packed : PackedSong) → IsSmallSong packed → HasLines false packed 0x1FCC plain_lines
+plain_has_lines : (packed : PackedSong) → IsSmallSong packed → HasLines false packed 0x1FCD plain_lines
 plain_has_lines packed is = record {
   marks = plain_sorted;
   same = subst (λ (marks : List Mark). IsPermutation marks plain_sorted) (sym (plain_marks_are packed is))
@@ -233,7 +273,7 @@ plain_has_lines packed is = record {
       plain_lines_are;
 }
 
-pub kept_bytes_are : (packed : PackedSong) → IsSmallSong packed → data_bytes true packed 0x1FC6 ≡ kept_bytes
+pub kept_bytes_are : (packed : PackedSong) → IsSmallSong packed → data_bytes true packed 0x1FC7 ≡ kept_bytes
 unfolding frequency_lows frequency_highs freq fields_before instrument_at
 kept_bytes_are packed is =
     rw (is.subtunes, is.patterns, is.instruments, is.wave, is.pulse, is.filter, is.speed, is.facts, is.numbers) refl
@@ -246,7 +286,7 @@ kept_marks_are packed is =
 kept_lines_are : kept_lines ≡ marked 0 kept_sorted kept_bytes
 kept_lines_are = refl
 
-kept_has_lines : (packed : PackedSong) → IsSmallSong packed → HasLines true packed 0x1FC6 kept_lines
+kept_has_lines : (packed : PackedSong) → IsSmallSong packed → HasLines true packed 0x1FC7 kept_lines
 kept_has_lines packed is = record {
   marks = kept_sorted;
   same = subst (λ (marks : List Mark). IsPermutation marks kept_sorted) (sym (kept_marks_are packed is))

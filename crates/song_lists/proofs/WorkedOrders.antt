@@ -6,12 +6,12 @@ use Rattle.packed_form.specs.declared.packed_songs.PackedSong.{PackedSong}
 use Rattle.song_lists.specs.DataLists.{fields_before, order_places, AreFirstOrders}
 use Rattle.song_lists.specs.WorkedLists.{IsSmallSong, FirstOrdersAreWorked}
 
-plain_places_are : (packed : PackedSong) → IsSmallSong packed → order_places false packed ≡ 41 ∷ 44 ∷ 48 ∷ []
+plain_places_are : (packed : PackedSong) → IsSmallSong packed → order_places false packed ≡ 40 ∷ 43 ∷ 47 ∷ []
 unfolding fields_before
 plain_places_are packed is =
     rw (is.subtunes, is.patterns, is.instruments, is.wave, is.pulse, is.filter, is.speed, is.facts) refl
 
-kept_places_are : (packed : PackedSong) → IsSmallSong packed → order_places true packed ≡ 47 ∷ 50 ∷ 54 ∷ []
+kept_places_are : (packed : PackedSong) → IsSmallSong packed → order_places true packed ≡ 46 ∷ 49 ∷ 53 ∷ []
 unfolding fields_before
 kept_places_are packed is =
     rw (is.subtunes, is.patterns, is.instruments, is.wave, is.pulse, is.filter, is.speed, is.facts) refl
@@ -40,13 +40,13 @@ pub first_orders_are_worked : (packed : PackedSong) → IsSmallSong packed → F
 first_orders_are_worked packed is =
     let plain = plain_places_are packed is in
     let kept = kept_places_are packed is in
-    let places : List ℕ = 41 ∷ 44 ∷ 48 ∷ [] in
-    let others : List ℕ = 47 ∷ 50 ∷ 54 ∷ [] in record {
-      plain = are_orders false packed 0x1FCC 41 44 48 plain;
-      kept = are_orders true packed 0x1FC6 47 50 54 kept;
-      one = other_order false packed 0x1FCC 0 (0x1FF6 ∷ 0x1FF8 ∷ 0x1FFC ∷ []) places plain (omega arith) refl;
-      two = other_order false packed 0x1FCC 1 (0x1FF5 ∷ 0x1FF9 ∷ 0x1FFC ∷ []) places plain (omega arith) refl;
-      three = other_order false packed 0x1FCC 2 (0x1FF5 ∷ 0x1FF8 ∷ 0x1FFD ∷ []) places plain (omega arith) refl;
-      elsewhere = other_order false packed 0x1FCD 0 (0x1FF5 ∷ 0x1FF8 ∷ 0x1FFC ∷ []) places plain (omega arith) refl;
-      flag = other_order true packed 0x1FCC 0 (0x1FF5 ∷ 0x1FF8 ∷ 0x1FFC ∷ []) others kept (omega arith) refl;
+    let places : List ℕ = 40 ∷ 43 ∷ 47 ∷ [] in
+    let others : List ℕ = 46 ∷ 49 ∷ 53 ∷ [] in record {
+      plain = are_orders false packed 0x1FCD 40 43 47 plain;
+      kept = are_orders true packed 0x1FC7 46 49 53 kept;
+      one = other_order false packed 0x1FCD 0 (0x1FF6 ∷ 0x1FF8 ∷ 0x1FFC ∷ []) places plain (omega arith) refl;
+      two = other_order false packed 0x1FCD 1 (0x1FF5 ∷ 0x1FF9 ∷ 0x1FFC ∷ []) places plain (omega arith) refl;
+      three = other_order false packed 0x1FCD 2 (0x1FF5 ∷ 0x1FF8 ∷ 0x1FFD ∷ []) places plain (omega arith) refl;
+      elsewhere = other_order false packed 0x1FCE 0 (0x1FF5 ∷ 0x1FF8 ∷ 0x1FFC ∷ []) places plain (omega arith) refl;
+      flag = other_order true packed 0x1FCD 0 (0x1FF5 ∷ 0x1FF8 ∷ 0x1FFC ∷ []) others kept (omega arith) refl;
     }

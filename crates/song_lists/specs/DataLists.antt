@@ -11,9 +11,11 @@ use Rattle.song_model.specs.declared.tables.TableName.TheVariants.{Wave, Pulse, 
 use Rattle.song_model.specs.LookUp.{instrument_at}
 use Rattle.play_model.specs.Freq.{freq}
 use Rattle.song_facts.specs.Facts.{timer_of}
+use Rattle.song_facts.specs.declared.hold.Hold.TheVariants.{Envelope, Gate}
 use Rattle.packed_form.specs.declared.packed_songs.PackedSubtune.{PackedSubtune}
 use Rattle.packed_form.specs.declared.packed_songs.PackedSong.{PackedSong}
 use Rattle.packed_form.specs.Unpacked.{unpacked_instrument, unpacked_song}
+use Rattle.packed_form.specs.Holders.{first_holder}
 use Rattle.asm6502.specs.declared.lines.Line.{Line}
 use Rattle.scopes.specs.Desk.{Layout}
 use Rattle.player_memory.specs.declared.labels.TheConstants.{NEXT_FREQUENCY_LOWS, NEXT_FREQUENCY_HIGHS}
@@ -22,8 +24,9 @@ use Rattle.player_memory.specs.declared.labels.TheConstants.{NEXT_FILTER_LEFTS, 
 use Rattle.player_memory.specs.declared.labels.TheConstants.{ORDERS, PATTERNS}
 use Rattle.player_memory.specs.Forms.{stored}
 use Rattle.player_memory.specs.SongLists.{SongList, FrequencyLows, FrequencyHighs, Lefts, Rights, Periods, Instruments}
-use Rattle.player_memory.specs.SongLists.{OneTimer, OneWave, OrderLows, OrderHighs, PatternLows, PatternHighs}
-use Rattle.player_memory.specs.SongLists.{OrderBytes, PatternBytes}
+use Rattle.player_memory.specs.SongLists.{OneTimer, OneWave, GateFrom, EnvelopeFrom, OrderLows, OrderHighs}
+use Rattle.player_memory.specs.SongLists.{PatternLows, PatternHighs, OrderBytes, PatternBytes}
+use Rattle.player_memory.specs.SongLists.{has_gate_from, has_envelope_from}
 use Rattle.player_memory.specs.SongLists.{is_read, shared_size, gap_size, slide_rows, instrument_byte, list_label}
 use Rattle.song_lists.specs.declared.marks.Mark.{Mark}
 use Rattle.song_lists.specs.Marks.{mark_at, marked}
@@ -90,9 +93,22 @@ abbrev pub one_wave_bytes : PackedSong → List ℕ
 one_wave_bytes packed =
     if packed.facts.own_wave then [] else (instrument_at (unpacked_song packed) 1).first_wave ∷ []
 
--- how many the first of them are
+-- and those that tell from which number on instruments hold the gate and the envelope before a note
+abbrev pub gate_from_bytes : PackedSong → List ℕ
+gate_from_bytes packed = if has_gate_from packed then first_holder packed Gate ∷ [] else []
+
+abbrev pub envelope_from_bytes : PackedSong → List ℕ
+envelope_from_bytes packed = if has_envelope_from packed then first_holder packed Envelope ∷ [] else []
+
+-- how many each of the first three has
 abbrev pub one_timer_size : PackedSong → ℕ
 one_timer_size packed = if packed.facts.own_timer then 0 else 1
+
+abbrev pub one_wave_size : PackedSong → ℕ
+one_wave_size packed = if packed.facts.own_wave then 0 else 1
+
+abbrev pub gate_from_size : PackedSong → ℕ
+gate_from_size packed = if has_gate_from packed then 1 else 0
 
 -- how many addresses of orderlists stand in lists: none where there is one subtune alone
 abbrev pub listed_orders : PackedSong → ℕ
@@ -156,7 +172,14 @@ one_timer_place dependent packed = instruments_place dependent packed + fields_b
 abbrev pub one_wave_place : Bool → PackedSong → ℕ
 one_wave_place dependent packed = one_timer_place dependent packed + one_timer_size packed
 
--- the addresses of the orderlists, where they are listed, and of the patterns stand behind that, and then they themselves
+abbrev pub gate_from_place : Bool → PackedSong → ℕ
+gate_from_place dependent packed = one_wave_place dependent packed + one_wave_size packed
+
+abbrev pub envelope_from_place : Bool → PackedSong → ℕ
+envelope_from_place dependent packed = gate_from_place dependent packed + gate_from_size packed
+
+-- the addresses of the orderlists, where they are listed, and of the patterns stand behind that, and then they
+-- themselves
 abbrev pub addresses_place : Bool → PackedSong → ℕ
 addresses_place dependent packed = one_timer_place dependent packed + shared_size packed
 
@@ -218,7 +241,8 @@ abbrev pub instrument_lists : PackedSong → List (List ℕ)
 instrument_lists packed = map (instrument_bytes packed) (range_with_len 0 9)
 
 abbrev pub shared_lists : PackedSong → List (List ℕ)
-shared_lists packed = one_timer_bytes packed ∷ one_wave_bytes packed ∷ []
+shared_lists packed =
+    one_timer_bytes packed ∷ one_wave_bytes packed ∷ gate_from_bytes packed ∷ envelope_from_bytes packed ∷ []
 
 -- the addresses of the orderlists where there are several subtunes, and the places before the patterns
 abbrev pub address_lists : Bool → PackedSong → ℕ → List (List ℕ)
@@ -255,6 +279,8 @@ label_place dependent packed (Instruments field) =
     instruments_place dependent packed + fields_before packed field
 label_place dependent packed OneTimer = one_timer_place dependent packed
 label_place dependent packed OneWave = one_wave_place dependent packed
+label_place dependent packed GateFrom = gate_from_place dependent packed
+label_place dependent packed EnvelopeFrom = envelope_from_place dependent packed
 label_place dependent packed OrderLows = addresses_place dependent packed
 label_place dependent packed OrderHighs = addresses_place dependent packed + listed_orders packed
 label_place dependent packed PatternLows = addresses_place dependent packed + 2 * listed_orders packed
@@ -319,11 +345,16 @@ slide_marks dependent packed =
     mark_at SLIDES_LOW (slides_low_place dependent packed)
     ∷ mark_at SLIDES_HIGH (slides_high_place dependent packed) ∷ []
 
+abbrev pub holder_marks : Bool → PackedSong → List Mark
+holder_marks dependent packed =
+    own_mark dependent packed GateFrom ∷ own_mark dependent packed EnvelopeFrom ∷ []
+
 abbrev pub list_marks : Bool → PackedSong → List Mark
 list_marks dependent packed =
     frequency_marks dependent packed ++ (speed_marks dependent packed ++ (wave_marks dependent packed
     ++ (pulse_marks dependent packed ++ (filter_marks dependent packed ++ (instrument_marks dependent packed
-    ++ (address_marks dependent packed ++ (shared_marks dependent packed ++ slide_marks dependent packed)))))))
+    ++ (address_marks dependent packed ++ (shared_marks dependent packed ++ (slide_marks dependent packed
+    ++ holder_marks dependent packed))))))))
 
 -- and with those of its orderlists and patterns
 abbrev pub data_marks : Bool → PackedSong → List Mark

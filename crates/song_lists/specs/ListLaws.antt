@@ -12,7 +12,8 @@ use Rattle.asm6502.specs.Stretches.{NamesNoLabelTwice, IsNamedAlways, AtHome}
 use Rattle.scopes.specs.Desk.{Layout}
 use Rattle.player_memory.specs.declared.conditions.TheConstants.{NOTE_DEPENDENT}
 use Rattle.player_memory.specs.declared.labels.TheConstants.{FREQUENCY_LOWS, ONE_TIMER, ONE_WAVE, ORDERS, PATTERNS}
-use Rattle.player_memory.specs.declared.labels.TheConstants.{SLIDES_LOW, SLIDES_HIGH, VARIABLES}
+use Rattle.player_memory.specs.declared.labels.TheConstants.{SLIDES_LOW, GATE_FROM, ENVELOPE_FROM}
+use Rattle.player_memory.specs.declared.labels.TheConstants.{SLIDES_HIGH, VARIABLES}
 use Rattle.player_memory.specs.Rooms.{AreSlides}
 use Rattle.player_memory.specs.Playing.{place_in}
 use Rattle.player_memory.specs.Fetching.{place_before}
@@ -89,7 +90,7 @@ NoLabelIsNamedTwice =
 -- a label of a list that each song has
 abbrev pub IsListLabel : ℕ → Type 0
 IsListLabel label =
-    ((FREQUENCY_LOWS ≤ label) × (label ≤ ONE_WAVE)) ⊎ ((SLIDES_LOW ≤ label) × (label ≤ SLIDES_HIGH))
+    ((FREQUENCY_LOWS ≤ label) × (label ≤ ONE_WAVE)) ⊎ ((SLIDES_LOW ≤ label) × (label ≤ ENVELOPE_FROM))
 
 -- or of an orderlist or a pattern
 abbrev pub IsDataLabel : ℕ → Type 0
@@ -216,6 +217,8 @@ pub record AreLaid (layout : Layout) (packed : PackedSong) : Type 0 where
       0x0800 ≤ place_in layout (list_label list) number
   pub timer : layout.address ONE_TIMER < MEMORY_SIZE
   pub wave : layout.address ONE_WAVE < MEMORY_SIZE
+  pub gates : layout.address GATE_FROM < MEMORY_SIZE
+  pub envelopes : layout.address ENVELOPE_FROM < MEMORY_SIZE
   pub orders : (number : ℕ) → number < 3 * length packed.subtunes → layout.address (ORDERS + number) < MEMORY_SIZE
   pub patterns : (number : ℕ) → number < length packed.patterns → PatternStands layout packed number
 

@@ -9,14 +9,17 @@ ghost use Rattle.player_memory.specs.SongLists.{instrument_byte};
 ghost use Rattle.song_lists.specs.DataLists.{gap_bytes, frequency_lows, frequency_highs, lefts, rights, stored_rows};
 ghost use Rattle.song_lists.specs.DataLists.{periods};
 ghost use Rattle.song_lists.specs.DataLists.{kept_list, lows, highs, orders_of, instrument_bytes};
-ghost use Rattle.song_lists.specs.DataLists.{one_timer_bytes, one_wave_bytes};
+ghost use Rattle.song_lists.specs.DataLists.{one_timer_bytes, one_wave_bytes, gate_from_bytes, envelope_from_bytes};
 ghost use Rattle.song_lists.specs.DataLists.{speed_lists, kept_lists, table_lists, instrument_lists, shared_lists};
 ghost use Rattle.song_lists.specs.DataLists.{order_places, pattern_places, frequency_lists, data_bytes};
 
 use base::{ByteList, NoMemory};
 use packed_form::{PackedInstrument, PackedPattern, PackedSong, PackedSubtune};
 use play_model::freq;
-use player_memory::{DELAY_BYTE, FIRST_WAVE_BYTE, TIMER_BYTE, gap_size, is_read};
+use player_memory::{
+    DELAY_BYTE, FIRST_WAVE_BYTE, TIMER_BYTE, gap_size, has_envelope_from, has_gate_from, is_read,
+};
+use song_facts::Hold;
 use song_model::TableRow;
 use std::alloc::Global;
 
@@ -257,12 +260,36 @@ fn push_one_wave(bytes: &mut ByteList, packed: &PackedSong) -> Result<(), NoMemo
     }
 }
 
+/// The number of the first instrument that holds its gate before a note, where it is told by that.
+fn push_gate_from(bytes: &mut ByteList, packed: &PackedSong) -> Result<(), NoMemory>
+    ensures { OnOk result (bytes.new ≡ bytes.old ++ gate_from_bytes packed.now) }
+{
+    if has_gate_from(packed) {
+        bytes.push(packed.first_holder(Hold::Gate))
+    } else {
+        Ok(())
+    }
+}
+
+/// The number of the first that holds its envelope, or its gate as well, where it is told by that.
+fn push_envelope_from(bytes: &mut ByteList, packed: &PackedSong) -> Result<(), NoMemory>
+    ensures { OnOk result (bytes.new ≡ bytes.old ++ envelope_from_bytes packed.now) }
+{
+    if has_envelope_from(packed) {
+        bytes.push(packed.first_holder(Hold::Envelope))
+    } else {
+        Ok(())
+    }
+}
+
 /// What stands alone for all instruments.
 fn push_shared_lists(bytes: &mut ByteList, packed: &PackedSong) -> Result<(), NoMemory>
     ensures { OnOk result (bytes.new ≡ bytes.old ++ concat (shared_lists packed.now)) }
 {
     push_one_timer(bytes, packed)?;
-    push_one_wave(bytes, packed)
+    push_one_wave(bytes, packed)?;
+    push_gate_from(bytes, packed)?;
+    push_envelope_from(bytes, packed)
 }
 
 /// The low bytes of the addresses of places, each less so many bytes.

@@ -6,7 +6,7 @@ ghost use Rattle.song_lists.specs.ListLaws.{LabelsHavePlaces, DataStands, ListsS
 ghost use Rattle.song_lists.specs.ListLaws.{PatternsStandInside, SlidesAreInside, NextBytesAreNext};
 ghost use Rattle.song_lists.specs.ListLaws.{SongListsStand, ListsAreLaid};
 ghost use Rattle.song_lists.specs.WorkedLists.{FrequenciesAreWorked, FewFieldsAreWorked, SmallListsAre, FirstOrdersAre};
-ghost use Rattle.song_lists.specs.WorkedLists.{OneSubtuneIs, OtherListingsAre};
+ghost use Rattle.song_lists.specs.WorkedLists.{HoldersAre, OneSubtuneIs, OtherListingsAre};
 ghost use Rattle.song_lists.specs.WorkedLayouts.{SmallLayoutsAre, OtherLayoutsAre, SmallPlacesAre, LabelsAreWorked};
 
 /// There are two zeros, as many bytes as are read of the packed song or stand alone for all its instruments, those of
@@ -53,14 +53,15 @@ pub fn lists_stand_inside()
     ensures next { NextBytesAreNext }
 {}
 
-/// The frequencies of some notes, and the lists of a small song, without calculated speeds from `$1FCC` on and with
-/// them from `$1FC6` on, worked by hand; its lists where some fields of its instruments aren't read, and where the
-/// addresses of its orderlists aren't listed; the addresses of its orderlists, and such as aren't theirs; and listings
-/// that aren't of it.
+/// The frequencies of some notes, and the lists of a small song, without calculated speeds from `$1FCD` on and with
+/// them from `$1FC7` on, worked by hand; its lists where some fields of its instruments aren't read, where numbers
+/// tell which of them hold the gate and the envelope before a note, and where the addresses of its orderlists aren't
+/// listed; the addresses of its orderlists, and such as aren't theirs; and listings that aren't of it.
 pub fn worked_lists()
     ensures frequencies { FrequenciesAreWorked }
     ensures small { SmallListsAre }
     ensures fields { FewFieldsAreWorked }
+    ensures holders { HoldersAre }
     ensures subtune { OneSubtuneIs }
     ensures orders { FirstOrdersAre }
     ensures others { OtherListingsAre }

@@ -4,24 +4,25 @@ ghost use Rattle.std.specs.Prelude.{◌≡◌, ◌≤◌, ◌+◌, [], ◌∷◌
 ghost use Rattle.player_memory.specs.declared.labels.TheConstants.{ORDERS, PATTERNS};
 ghost use Rattle.song_lists.specs.Marks.{mark_at};
 ghost use Rattle.song_lists.specs.DataLists.{frequency_marks, speed_marks, wave_marks, pulse_marks, filter_marks};
-ghost use Rattle.song_lists.specs.DataLists.{instrument_marks, address_marks, shared_marks, slide_marks, list_marks};
-ghost use Rattle.song_lists.specs.DataLists.{marks_from, data_marks, order_places, pattern_places};
+ghost use Rattle.song_lists.specs.DataLists.{instrument_marks, address_marks, shared_marks, slide_marks, holder_marks};
+ghost use Rattle.song_lists.specs.DataLists.{list_marks, marks_from, data_marks, order_places, pattern_places};
 ghost use Rattle.song_lists.specs.ListLaws.{lists_size};
 
 use crate::marks::{Mark, MarkList};
 use crate::places::{
-    addresses_place, field_size, filter_place, highs_place, instruments_place, listed_orders,
-    lows_place, one_timer_place, one_wave_place, patterns, periods_place, pulse_place, rows,
-    slides_high_place, slides_low_place, speed_lefts_place, wave_place,
+    addresses_place, envelope_from_place, field_size, filter_place, gate_from_place, highs_place,
+    instruments_place, listed_orders, lows_place, one_timer_place, one_wave_place, patterns,
+    periods_place, pulse_place, rows, slides_high_place, slides_low_place, speed_lefts_place,
+    wave_place,
 };
 use base::NoMemory;
 use packed_form::PackedSong;
 use player_memory::labels::{
-    ADS, FILTER_LEFTS, FILTER_RIGHTS, FREQUENCY_HIGHS, FREQUENCY_LOWS, NEXT_FILTER_LEFTS,
-    NEXT_FREQUENCY_HIGHS, NEXT_FREQUENCY_LOWS, NEXT_PULSE_LEFTS, NEXT_WAVE_LEFTS, NEXT_WAVE_RIGHTS,
-    ONE_TIMER, ONE_WAVE, ORDERS, ORDERS_HIGH, ORDERS_LOW, PATTERNS, PATTERNS_HIGH, PATTERNS_LOW,
-    PERIODS, PULSE_LEFTS, PULSE_RIGHTS, SLIDES_HIGH, SLIDES_LOW, SPEED_LEFTS, SPEED_RIGHTS,
-    WAVE_LEFTS, WAVE_RIGHTS,
+    ADS, ENVELOPE_FROM, FILTER_LEFTS, FILTER_RIGHTS, FREQUENCY_HIGHS, FREQUENCY_LOWS, GATE_FROM,
+    NEXT_FILTER_LEFTS, NEXT_FREQUENCY_HIGHS, NEXT_FREQUENCY_LOWS, NEXT_PULSE_LEFTS,
+    NEXT_WAVE_LEFTS, NEXT_WAVE_RIGHTS, ONE_TIMER, ONE_WAVE, ORDERS, ORDERS_HIGH, ORDERS_LOW,
+    PATTERNS, PATTERNS_HIGH, PATTERNS_LOW, PERIODS, PULSE_LEFTS, PULSE_RIGHTS, SLIDES_HIGH,
+    SLIDES_LOW, SPEED_LEFTS, SPEED_RIGHTS, WAVE_LEFTS, WAVE_RIGHTS,
 };
 use std::alloc::Global;
 
@@ -178,6 +179,20 @@ fn push_slide_marks(
     ])
 }
 
+/// The labels of the numbers from which on instruments hold the gate and the envelope before a note.
+fn push_holder_marks(
+    marks: &mut MarkList,
+    packed: &PackedSong,
+    dependent: bool,
+) -> Result<(), NoMemory>
+    ensures { OnOk result (marks.new ≡ marks.old ++ holder_marks dependent packed.now) }
+{
+    marks.extend(&[
+        mark_at(GATE_FROM, gate_from_place(packed, dependent)),
+        mark_at(ENVELOPE_FROM, envelope_from_place(packed, dependent)),
+    ])
+}
+
 /// The labels that each song's lists have.
 fn list_marks(alloc: Global, packed: &PackedSong, dependent: bool) -> Result<MarkList, NoMemory>
     requires { lists_size dependent packed.now ≤ 65535 }
@@ -193,6 +208,7 @@ fn list_marks(alloc: Global, packed: &PackedSong, dependent: bool) -> Result<Mar
     push_address_marks(&mut marks, packed, dependent)?;
     push_shared_marks(&mut marks, packed, dependent)?;
     push_slide_marks(&mut marks, packed, dependent)?;
+    push_holder_marks(&mut marks, packed, dependent)?;
     Ok(marks)
 }
 

@@ -5,8 +5,9 @@
 //! each label in front of its byte. Where these bytes stand in a memory, and the labels have their addresses, the
 //! memory has the lists that the player's blocks ask for.
 //!
-//! It stands on `player_memory` for what these lists and labels are, on `packed_form` for packed songs, on
-//! `play_model` for the frequencies, and on `asm6502` for listings. See `docs/player-blocks.md`.
+//! It stands on `player_memory` for what these lists and labels are, on `packed_form` for packed songs, on `song_facts`
+//! for what instruments hold, on `play_model` for the frequencies, and on `asm6502` for listings. See
+//! `docs/player-blocks.md`.
 #![tactic(auto)]
 
 mod bytes;

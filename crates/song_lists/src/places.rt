@@ -5,7 +5,8 @@ ghost use Rattle.std.specs.List.{concat, flat_map};
 ghost use Rattle.player_memory.specs.SongLists.{FrequencyLows, FrequencyHighs};
 ghost use Rattle.song_lists.specs.DataLists.{kept_rows, speed_lefts_place, slides_low_place, slides_high_place};
 ghost use Rattle.song_lists.specs.DataLists.{periods_place, wave_place, pulse_place, filter_place, instruments_place};
-ghost use Rattle.song_lists.specs.DataLists.{field_size, one_timer_place, one_wave_place, addresses_place};
+ghost use Rattle.song_lists.specs.DataLists.{field_size, one_timer_place, one_wave_place, gate_from_place};
+ghost use Rattle.song_lists.specs.DataLists.{envelope_from_place, addresses_place};
 ghost use Rattle.song_lists.specs.DataLists.{orders_place, orders_of, places_from};
 ghost use Rattle.song_lists.specs.DataLists.{listed_orders, order_places};
 ghost use Rattle.song_lists.specs.DataLists.{pattern_places, frequencies_place, bytes_back, label_place};
@@ -13,7 +14,7 @@ ghost use Rattle.song_lists.specs.ListLaws.{lists_size};
 
 use base::{Items, NoMemory};
 use packed_form::{PackedOrder, PackedPattern, PackedSong, PackedSubtune};
-use player_memory::{bytes_read, gap_size, is_read, shared_size, unread_size};
+use player_memory::{bytes_read, gap_size, has_gate_from, is_read, shared_size, unread_size};
 use song_model::Table;
 use std::alloc::Global;
 
@@ -153,15 +154,31 @@ pub(crate) fn one_timer_place(packed: &PackedSong, dependent: bool) -> u16
 
 /// Where that of their first waveform is.
 pub(crate) fn one_wave_place(packed: &PackedSong, dependent: bool) -> u16
-    ensures { result ≡ one_wave_place dependent packed.now }
+    ensures place { result ≡ one_wave_place dependent packed.now }
+    ensures most { result ≤ 3378 }
 {
     one_timer_place(packed, dependent) + u16::from(!packed.facts.own_timer)
+}
+
+/// Where that of the number is from which on they hold the gate.
+pub(crate) fn gate_from_place(packed: &PackedSong, dependent: bool) -> u16
+    ensures place { result ≡ gate_from_place dependent packed.now }
+    ensures most { result ≤ 3379 }
+{
+    one_wave_place(packed, dependent) + u16::from(!packed.facts.own_wave)
+}
+
+/// Where that of the number is from which on they hold the envelope.
+pub(crate) fn envelope_from_place(packed: &PackedSong, dependent: bool) -> u16
+    ensures { result ≡ envelope_from_place dependent packed.now }
+{
+    gate_from_place(packed, dependent) + u16::from(has_gate_from(packed))
 }
 
 /// Where the addresses begin.
 pub(crate) fn addresses_place(packed: &PackedSong, dependent: bool) -> u16
     ensures place { result ≡ addresses_place dependent packed.now }
-    ensures most { result ≤ 3379 }
+    ensures most { result ≤ 3381 }
 {
     one_timer_place(packed, dependent) + shared_size(packed) as u16
 }
@@ -181,7 +198,7 @@ pub(crate) fn listed_orders(packed: &PackedSong) -> u16
 /// Where the orderlists begin.
 fn orders_place(packed: &PackedSong, dependent: bool) -> u16
     ensures place { result ≡ orders_place dependent packed.now }
-    ensures most { result ≤ 3987 }
+    ensures most { result ≤ 3989 }
 {
     addresses_place(packed, dependent) + 2 * listed_orders(packed) + 2 * patterns(packed)
 }
