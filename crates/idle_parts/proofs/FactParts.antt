@@ -1,8 +1,9 @@
 -- Where the parts that a song's facts keep do nothing.
-use Rattle.std.proofs.Common.{◌≡◌, ◌≢◌, ℕ, ◌+◌, ◌*◌, ◌%◌, ◌<◌, ◌≤◌, [], ◌∷◌, Bool, true, false, nat_eq, nat_le}
+use Rattle.std.proofs.Common.{◌≡◌, ◌≢◌, ℕ, ◌+◌, ◌*◌, ◌%◌, ◌<◌, ◌≤◌, ◌⊎◌, [], ◌∷◌, Bool, true, false, nat_eq}
+use Rattle.std.proofs.Common.{nat_le}
 use Rattle.std.proofs.Common.{if◌then◌else◌}
 use Rattle.std.proofs.Common.{bit_xor, refl, sym, ap, ◌∙◌, inl, inr, arith}
-use Rattle.std.proofs.lemmas.Bool.{le-leb, lt-leb, le-ltb, ne_eqb, agree_below_at}
+use Rattle.std.proofs.lemmas.Bool.{le-leb, lt-leb, le-ltb, ne_eqb, agree_below_at, true≢false}
 use Rattle.std.proofs.lemmas.Bool.Decides.{eqb_tells}
 use Rattle.play_model.specs.State.{Playing}
 use Rattle.scopes.specs.Desk.{Desk, Layout}
@@ -15,17 +16,17 @@ use Rattle.cpu6502.specs.declared.mnemonic.Mnemonic.TheVariants.{Cmp, Lda, Sta}
 use Rattle.scopes.specs.Meaning.{Done, Left, each_one, ran}
 use Rattle.player_memory.specs.declared.conditions.TheConstants.{HELD_NOTE, LEGATO, NOTE_VIBRATO, VIBRATO_DELAY}
 use Rattle.player_memory.specs.declared.conditions.TheConstants.{ROW_ONCE, ROW_COMMAND, ROW_SLIDE, EFFECTS, SWINGS}
-use Rattle.player_memory.specs.declared.conditions.TheConstants.{INSTRUMENT_VIBRATO}
+use Rattle.player_memory.specs.declared.conditions.TheConstants.{INSTRUMENT_VIBRATO, FIRST_HOLDS, NO_HARD_RESTART}
 use Rattle.player_memory.specs.declared.labels.TheConstants.{INSTRUMENT, NEW_COMMAND, WAVE_POINTER}
 use Rattle.player_memory.specs.declared.labels.TheConstants.{GATE_TIMERS, VIBRATOS, DELAYS, COMMAND, PARAM}
-use Rattle.player_memory.specs.declared.labels.TheConstants.{VIB_TIME, VIB_DELAY, NEW_PARAM}
+use Rattle.player_memory.specs.declared.labels.TheConstants.{VIB_TIME, VIB_DELAY, NEW_PARAM, GATE_FROM, ENVELOPE_FROM}
 use Rattle.player_memory.specs.Forms.{stored_left}
 use Rattle.player_memory.specs.Playing.{IsListed}
 use Rattle.player_text.specs.declared.fetch.TheConstants.{GATE_CLOSED}
 use Rattle.player_text.specs.declared.tick.TheConstants.{NOTE_TAKEN, COMMAND_BEGUN, ONCE, BARE, SETTLED}
 use Rattle.player_text.specs.declared.joints.TheConstants.{DONE}
-use Rattle.idle_parts.specs.Idle.{Y, HoldsVoice, Idles, part}
-use Rattle.idle_parts.specs.IdleParts.{FactsIdle}
+use Rattle.idle_parts.specs.Idle.{A, Y, HoldsVoice, Idles, part}
+use Rattle.idle_parts.specs.IdleParts.{IsBelow, IsBelowHolders, FactsIdle}
 use Rattle.idle_parts.specs.Places.{RowsLeave, RowsEnd}
 use Rattle.idle_parts.proofs.Reading.{own_sees, own_writes, own_is, own_bytes}
 
@@ -43,51 +44,192 @@ plain_timer t low = lt-leb 128 (2 * t % 256) (omega (arith, low))
 
 -- the lines that read the timer, where those of bit $40 are kept, and where they aren't
 held_idles : {layout : Layout} {rows voice : ℕ} {s : Playing} {desk : Desk} → HoldsVoice layout rows voice s desk →
-    (timer : ℕ) → IsListed layout rows desk.at GATE_TIMERS s.voice.instrument timer → timer < 0x40 → (k : Bool) →
+    layout.holds FIRST_HOLDS ≡ true → (timer : ℕ) →
+    IsListed layout rows desk.at GATE_TIMERS s.voice.instrument timer → timer < 0x40 → (k : Bool) →
     layout.holds LEGATO ≡ k → Idles layout (part HELD_NOTE 0 GATE_CLOSED.now) desk []
-held_idles {s = s} h timer listed low true kept =
+held_idles {s = s} h first timer listed low true kept =
     let sees = own_sees h INSTRUMENT refl in
     let is = own_is h INSTRUMENT s.voice.instrument refl (own_bytes h).instrument in
     let sees_timer = listed.reads in
     let is_timer = listed.is in
     let n = plain_timer timer low in
     record {
-      ends = rw (sees, is, sees_timer, is_timer, kept, n) refl;
-      stays = λ place. rw (sees, is, sees_timer, is_timer, kept, n) refl;
-      x = rw (sees, is, sees_timer, is_timer, kept, n) refl;
-      decimal = rw (sees, is, sees_timer, is_timer, kept, n) refl;
+      ends = rw (first, sees, is, sees_timer, is_timer, kept, n) refl;
+      stays = λ place. rw (first, sees, is, sees_timer, is_timer, kept, n) refl;
+      x = rw (first, sees, is, sees_timer, is_timer, kept, n) refl;
+      decimal = rw (first, sees, is, sees_timer, is_timer, kept, n) refl;
       kept_are = tt;
     }
-held_idles {s = s} h timer listed low false kept =
+held_idles {s = s} h first timer listed low false kept =
     let sees = own_sees h INSTRUMENT refl in
     let is = own_is h INSTRUMENT s.voice.instrument refl (own_bytes h).instrument in
     let sees_timer = listed.reads in
     record {
-      ends = rw (sees, is, sees_timer, kept) refl;
-      stays = λ place. rw (sees, is, sees_timer, kept) refl;
-      x = rw (sees, is, sees_timer, kept) refl;
-      decimal = rw (sees, is, sees_timer, kept) refl;
+      ends = rw (first, sees, is, sees_timer, kept) refl;
+      stays = λ place. rw (first, sees, is, sees_timer, kept) refl;
+      x = rw (first, sees, is, sees_timer, kept) refl;
+      decimal = rw (first, sees, is, sees_timer, kept) refl;
       kept_are = tt;
     }
 
 held_plain : {layout : Layout} {rows voice : ℕ} {s : Playing} {desk : Desk} → HoldsVoice layout rows voice s desk →
-    (timer : ℕ) → IsListed layout rows desk.at GATE_TIMERS s.voice.instrument timer → timer < 0x40 → (k : Bool) →
+    layout.holds FIRST_HOLDS ≡ true → (timer : ℕ) →
+    IsListed layout rows desk.at GATE_TIMERS s.voice.instrument timer → timer < 0x40 → (k : Bool) →
     layout.holds LEGATO ≡ k → (ran each_one layout (part HELD_NOTE 0 GATE_CLOSED.now) desk).desk.cpu.c ≡ false
-held_plain {s = s} h timer listed low true kept =
+held_plain {s = s} h first timer listed low true kept =
     let sees = own_sees h INSTRUMENT refl in
     let is = own_is h INSTRUMENT s.voice.instrument refl (own_bytes h).instrument in
     let sees_timer = listed.reads in
     let is_timer = listed.is in
     let n = plain_timer timer low in
     let c : nat_le 128 timer ≡ false = lt-leb 128 timer (omega (arith, low)) in
-    rw (sees, is, sees_timer, is_timer, kept, n, c) refl
-held_plain {s = s} h timer listed low false kept =
+    rw (first, sees, is, sees_timer, is_timer, kept, n, c) refl
+held_plain {s = s} h first timer listed low false kept =
     let sees = own_sees h INSTRUMENT refl in
     let is = own_is h INSTRUMENT s.voice.instrument refl (own_bytes h).instrument in
     let sees_timer = listed.reads in
     let is_timer = listed.is in
     let c : nat_le 128 timer ≡ false = lt-leb 128 timer (omega (arith, low)) in
-    rw (sees, is, sees_timer, is_timer, kept, c) refl
+    rw (first, sees, is, sees_timer, is_timer, kept, c) refl
+
+-- those that compare its number, which is below both, as far as they are kept
+ordered_idles : {layout : Layout} {rows voice : ℕ} {s : Playing} {desk : Desk} → HoldsVoice layout rows voice s desk →
+    IsBelowHolders layout rows desk.at s.voice.instrument → (g : Bool) → layout.holds LEGATO ≡ g → (e : Bool) →
+    layout.holds NO_HARD_RESTART ≡ e → Idles layout (part HELD_NOTE 0 GATE_CLOSED.now) desk []
+ordered_idles {s = s} h o true legato true soft =
+    let first = o.ordered in
+    let sees = own_sees h INSTRUMENT refl in
+    let is = own_is h INSTRUMENT s.voice.instrument refl (own_bytes h).instrument in
+    let gate = o.gate legato in
+    let sees_gate = gate.stands.reads in
+    let is_gate = gate.stands.is in
+    let c = lt-leb gate.from s.voice.instrument gate.below in
+    let sees_envelope = (o.envelope soft).stands.reads in
+    record {
+      ends = rw (first, sees, is, legato, soft, sees_gate, is_gate, c, sees_envelope) refl;
+      stays = λ place. rw (first, sees, is, legato, soft, sees_gate, is_gate, c, sees_envelope) refl;
+      x = rw (first, sees, is, legato, soft, sees_gate, is_gate, c, sees_envelope) refl;
+      decimal = rw (first, sees, is, legato, soft, sees_gate, is_gate, c, sees_envelope) refl;
+      kept_are = tt;
+    }
+ordered_idles {s = s} h o true legato false soft =
+    let first = o.ordered in
+    let sees = own_sees h INSTRUMENT refl in
+    let is = own_is h INSTRUMENT s.voice.instrument refl (own_bytes h).instrument in
+    let gate = o.gate legato in
+    let sees_gate = gate.stands.reads in
+    let is_gate = gate.stands.is in
+    let c = lt-leb gate.from s.voice.instrument gate.below in
+    record {
+      ends = rw (first, sees, is, legato, soft, sees_gate, is_gate, c) refl;
+      stays = λ place. rw (first, sees, is, legato, soft, sees_gate, is_gate, c) refl;
+      x = rw (first, sees, is, legato, soft, sees_gate, is_gate, c) refl;
+      decimal = rw (first, sees, is, legato, soft, sees_gate, is_gate, c) refl;
+      kept_are = tt;
+    }
+ordered_idles h o false legato true soft =
+    let first = o.ordered in
+    let sees = own_sees h INSTRUMENT refl in
+    let sees_envelope = (o.envelope soft).stands.reads in
+    record {
+      ends = rw (first, sees, legato, soft, sees_envelope) refl;
+      stays = λ place. rw (first, sees, legato, soft, sees_envelope) refl;
+      x = rw (first, sees, legato, soft, sees_envelope) refl;
+      decimal = rw (first, sees, legato, soft, sees_envelope) refl;
+      kept_are = tt;
+    }
+ordered_idles h o false legato false soft =
+    let first = o.ordered in
+    let sees = own_sees h INSTRUMENT refl in
+    record {
+      ends = rw (first, sees, legato, soft) refl;
+      stays = λ place. rw (first, sees, legato, soft) refl;
+      x = rw (first, sees, legato, soft) refl;
+      decimal = rw (first, sees, legato, soft) refl;
+      kept_are = tt;
+    }
+
+ordered_plain : {layout : Layout} {rows voice : ℕ} {s : Playing} {desk : Desk} → HoldsVoice layout rows voice s desk →
+    IsBelowHolders layout rows desk.at s.voice.instrument →
+    (layout.holds LEGATO ≡ true) ⊎ (layout.holds NO_HARD_RESTART ≡ true) → (g : Bool) → layout.holds LEGATO ≡ g →
+    (e : Bool) → layout.holds NO_HARD_RESTART ≡ e →
+    (ran each_one layout (part HELD_NOTE 0 GATE_CLOSED.now) desk).desk.cpu.c ≡ false
+ordered_plain {s = s} h o one true legato true soft =
+    let first = o.ordered in
+    let sees = own_sees h INSTRUMENT refl in
+    let is = own_is h INSTRUMENT s.voice.instrument refl (own_bytes h).instrument in
+    let gate = o.gate legato in
+    let sees_gate = gate.stands.reads in
+    let is_gate = gate.stands.is in
+    let c = lt-leb gate.from s.voice.instrument gate.below in
+    let envelope = o.envelope soft in
+    let sees_envelope = envelope.stands.reads in
+    let is_envelope = envelope.stands.is in
+    let z = lt-leb envelope.from s.voice.instrument envelope.below in
+    rw (first, sees, is, legato, soft, sees_gate, is_gate, c, sees_envelope, is_envelope, z) refl
+ordered_plain {s = s} h o one true legato false soft =
+    let first = o.ordered in
+    let sees = own_sees h INSTRUMENT refl in
+    let is = own_is h INSTRUMENT s.voice.instrument refl (own_bytes h).instrument in
+    let gate = o.gate legato in
+    let sees_gate = gate.stands.reads in
+    let is_gate = gate.stands.is in
+    let c = lt-leb gate.from s.voice.instrument gate.below in
+    rw (first, sees, is, legato, soft, sees_gate, is_gate, c) refl
+ordered_plain {s = s} h o one false legato true soft =
+    let first = o.ordered in
+    let sees = own_sees h INSTRUMENT refl in
+    let is = own_is h INSTRUMENT s.voice.instrument refl (own_bytes h).instrument in
+    let envelope = o.envelope soft in
+    let sees_envelope = envelope.stands.reads in
+    let is_envelope = envelope.stands.is in
+    let z = lt-leb envelope.from s.voice.instrument envelope.below in
+    rw (first, sees, is, legato, soft, sees_envelope, is_envelope, z) refl
+ordered_plain h o (inl gate) false legato false soft = absurd (true≢false (sym gate ∙ legato))
+ordered_plain h o (inr envelope) false legato false soft = absurd (true≢false (sym envelope ∙ soft))
+
+-- a number that A is below, compared
+gate_below : {layout : Layout} {rows : ℕ} {desk : Desk} → IsBelow layout rows desk.at GATE_FROM desk.cpu.a →
+    Idles layout (part LEGATO 1 GATE_CLOSED.now) desk (A ∷ Y ∷ [])
+gate_below {desk = desk} below =
+    let sees = below.stands.reads in
+    let is = below.stands.is in
+    let c = lt-leb below.from desk.cpu.a below.below in
+    record {
+      ends = rw (sees, is, c) refl;
+      stays = λ place. rw (sees, is, c) refl;
+      x = rw (sees, is, c) refl;
+      decimal = rw (sees, is, c) refl;
+      kept_are = rw (sees, is, c) (refl, (refl, tt));
+    }
+
+gate_plain : {layout : Layout} {rows : ℕ} (desk : Desk) → IsBelow layout rows desk.at GATE_FROM desk.cpu.a →
+    (ran each_one layout (part LEGATO 1 GATE_CLOSED.now) desk).desk.cpu.c ≡ false
+gate_plain desk below =
+    let sees = below.stands.reads in
+    let is = below.stands.is in
+    let c = lt-leb below.from desk.cpu.a below.below in
+    rw (sees, is, c) refl
+
+envelope_below : {layout : Layout} {rows : ℕ} {desk : Desk} → IsBelow layout rows desk.at ENVELOPE_FROM desk.cpu.a →
+    Idles layout (part NO_HARD_RESTART 0 GATE_CLOSED.now) desk (A ∷ Y ∷ [])
+envelope_below {desk = desk} below =
+    let sees = below.stands.reads in
+    record {
+      ends = rw sees refl;
+      stays = λ place. rw sees refl;
+      x = rw sees refl;
+      decimal = rw sees refl;
+      kept_are = rw sees (refl, (refl, tt));
+    }
+
+envelope_plain : {layout : Layout} {rows : ℕ} (desk : Desk) → IsBelow layout rows desk.at ENVELOPE_FROM desk.cpu.a →
+    (ran each_one layout (part NO_HARD_RESTART 0 GATE_CLOSED.now) desk).desk.cpu.c ≡ false
+envelope_plain desk below =
+    let sees = below.stands.reads in
+    let is = below.stands.is in
+    let c = lt-leb below.from desk.cpu.a below.below in
+    rw (sees, is, c) refl
 
 -- a byte is written where it stands
 put_same : (at : ℕ → ℕ) (here byte place : ℕ) → at here ≡ byte →
@@ -200,8 +342,14 @@ facts_idle {layout} {rows} {voice} {s} {desk} h = record {
         decimal = rw (sees, is) refl;
         kept_are = rw (sees, is) (refl, tt);
       });
-  held = λ timer listed low. held_idles h timer listed low (layout.holds LEGATO) refl;
-  held_carry = λ timer listed low. held_plain h timer listed low (layout.holds LEGATO) refl;
+  held = λ first timer listed low. held_idles h first timer listed low (layout.holds LEGATO) refl;
+  held_carry = λ first timer listed low. held_plain h first timer listed low (layout.holds LEGATO) refl;
+  ordered = λ below. ordered_idles h below _ refl _ refl;
+  ordered_carry = λ below one. ordered_plain h below one _ refl _ refl;
+  gate_from = gate_below;
+  gate_carry = gate_plain _;
+  envelope_from = envelope_below;
+  envelope_carry = envelope_plain _;
   legato = λ plus. record {
     ends = rw plus refl;
     stays = λ place. rw plus refl;

@@ -46,6 +46,7 @@ parts_are_these = record {
   note_pulse = refl;
   note_filter = refl;
   held_note = refl;
+  first_holds = refl;
   legato = refl;
   no_hard_restart = refl;
   special_row = refl;

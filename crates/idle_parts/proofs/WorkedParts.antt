@@ -1,12 +1,13 @@
 -- Where parts don't do nothing.
-use Rattle.std.proofs.Common.{◌≡◌, ◌≢◌, ℕ, ◌+◌, ◌%◌, Bool, true, false, nat_eq, nat_le, eq-eqb, refl, sym, ap}
+use Rattle.std.proofs.Common.{◌≡◌, ◌≢◌, ℕ, ◌+◌, ◌%◌, ◌≤◌, Bool, true, false, nat_eq, nat_le, eq-eqb, refl, sym, ap, subst}
 use Rattle.std.proofs.Common.{◌∙◌, lit<, arith, [], ◌∷◌}
-use Rattle.std.proofs.lemmas.Bool.{le-leb}
+use Rattle.std.proofs.lemmas.Bool.{le-leb, true≢false}
 use Rattle.play_model.specs.State.{Playing}
+use Rattle.song_facts.specs.Hold.{held_by, how_much}
 use Rattle.scopes.specs.Desk.{Desk, Layout}
 use Rattle.scopes.specs.Meaning.{Outcome, Left}
 use Rattle.player_memory.specs.declared.conditions.TheConstants.{SET_AD, GATE_NOTE, ROW_TONE}
-use Rattle.player_memory.specs.declared.conditions.TheConstants.{HELD_NOTE, LEGATO}
+use Rattle.player_memory.specs.declared.conditions.TheConstants.{HELD_NOTE, LEGATO, FIRST_HOLDS}
 use Rattle.player_text.specs.declared.commands.TheConstants.{AD_SET}
 use Rattle.player_text.specs.declared.fetch.TheConstants.{ENTRY_READ, GATE_CLOSED}
 use Rattle.player_text.specs.declared.tick.TheConstants.{NOTE_TAKEN}
@@ -53,22 +54,23 @@ tone_works_next layout desk three true reads i = let bad = rw (reads, three) at 
 
 -- bit $80 of the timer, whether the lines of bit $40 are kept
 held_works : {layout : Layout} {rows voice : ℕ} {s : Playing} {desk : Desk} → HoldsVoice layout rows voice s desk →
-    desk.cpu.c ≡ false → IsListed layout rows desk.at GATE_TIMERS s.voice.instrument 0x80 → (k : Bool) →
+    layout.holds FIRST_HOLDS ≡ true → desk.cpu.c ≡ false →
+    IsListed layout rows desk.at GATE_TIMERS s.voice.instrument 0x80 → (k : Bool) →
     layout.holds LEGATO ≡ k → ¬ Idles layout (part HELD_NOTE 0 GATE_CLOSED.now) desk (Carry ∷ [])
-held_works {s = s} h off listed true kept i =
+held_works {s = s} h first off listed true kept i =
     let sees = own_sees h INSTRUMENT refl in
     let is = own_is h INSTRUMENT s.voice.instrument refl (own_bytes h).instrument in
     let sees_timer = listed.reads in
     let is_timer = listed.is in
-    let c = rw (sees, is, sees_timer, is_timer, kept, off) at i.kept_are.0 in
-    absurd (cc)
-held_works {s = s} h off listed false kept i =
+    let c = rw (first, sees, is, sees_timer, is_timer, kept, off) at i.kept_are.0 in
+    absurd (true≢false c)
+held_works {s = s} h first off listed false kept i =
     let sees = own_sees h INSTRUMENT refl in
     let is = own_is h INSTRUMENT s.voice.instrument refl (own_bytes h).instrument in
     let sees_timer = listed.reads in
     let is_timer = listed.is in
-    let c = rw (sees, is, sees_timer, is_timer, kept, off) at i.kept_are.0 in
-    absurd (cc)
+    let c = rw (first, sees, is, sees_timer, is_timer, kept, off) at i.kept_are.0 in
+    absurd (true≢false c)
 
 -- the scope that is left, 0 where none is
 abbrev name_of : Outcome → ℕ
@@ -105,18 +107,68 @@ parts_are_worked = record {
   gate = λ layout desk off i. gate_works layout desk off _ refl i;
   legato = λ layout desk minus i. let bad = rw minus at i.ends in absurd (cc);
   no_hard_restart = λ layout desk on i. let bad = rw on at i.ends in absurd (cc);
+  gate_from = λ i. (let way = i.ends in absurd (cc));
+  gate_behind = record {
+    ends = refl;
+    stays = λ place. refl;
+    x = refl;
+    decimal = refl;
+    kept_are = (refl, (refl, (refl, tt)));
+  };
+  envelope_from = λ i. (let c = i.kept_are.0 in absurd (cc));
+  envelope_behind = record {
+    ends = refl;
+    stays = λ place. refl;
+    x = refl;
+    decimal = refl;
+    kept_are = (refl, (refl, (refl, tt)));
+  };
+  gate_clears = λ i. (let c = i.kept_are.0 in absurd (cc));
+  not_below = λ rows is. (let from = is.stands.is in let below = is.below in omega (arith, from, below));
+  not_twice = λ rows look told.
+      (let timer = told.timer.is in
+      let gate = told.gate refl in
+      let from = gate.stands.is in
+      let low = gate.tells.1 (subst (λ t. 2 ≤ how_much (held_by t)) timer (omega arith)) in
+      omega (arith, from, low));
+  ordered = record { ends = refl; stays = λ place. refl; x = refl; decimal = refl; kept_are = (refl, tt) };
+  ordered_gate = λ i. (let way = i.ends in absurd (cc));
+  ordered_envelope = λ i. (let c = i.kept_are.0 in absurd (cc));
+  no_gate = record { ends = refl; stays = λ place. refl; x = refl; decimal = refl; kept_are = (refl, tt) };
+  no_envelope = record { ends = refl; stays = λ place. refl; x = refl; decimal = refl; kept_are = (refl, tt) };
+  told_gate = record {
+    way_is = refl;
+    here = record { stays = λ place. refl; x = refl; decimal = refl };
+    there = record { stays = λ place. refl; x = refl; decimal = refl };
+    carry_is = λ kept ends. absurd (cc);
+  };
+  not_gate = λ told. (let way = told.way_is in absurd (cc));
+  told_envelope = record {
+    way_is = refl;
+    here = record { stays = λ place. refl; x = refl; decimal = refl };
+    there = record { stays = λ place. refl; x = refl; decimal = refl };
+    carry_is = λ kept ends. refl;
+  };
+  not_envelope = λ told. (let c = told.carry_is refl refl in absurd (cc));
+  told_none = record {
+    way_is = refl;
+    here = record { stays = λ place. refl; x = refl; decimal = refl };
+    there = record { stays = λ place. refl; x = refl; decimal = refl };
+    carry_is = λ kept ends. refl;
+  };
+  none_holds = λ told. (let c = told.carry_is refl refl in absurd (cc));
   once = λ layout desk five i. let bad = rw five at i.ends in absurd (cc);
   none = λ layout desk i. let bad = i.ends in absurd (cc);
   tone = λ layout desk three. tone_works layout desk three _ _ refl refl;
   tone_next = λ layout desk three. tone_works_next layout desk three _ refl;
   special = λ layout desk kept row i. let bad = rw (row, kept) at i.ends in absurd (cc);
-  held = λ layout rows voice s desk h kept listed i. (
+  held = λ layout rows voice s desk h first kept listed i. (
       let sees = own_sees h INSTRUMENT refl in
       let is = own_is h INSTRUMENT s.voice.instrument refl (own_bytes h).instrument in
       let sees_timer = listed.reads in
       let is_timer = listed.is in
-      let bad = rw (sees, is, sees_timer, is_timer, kept) at i.ends in absurd (cc));
-  held_carry = λ layout rows voice s desk h off listed. held_works h off listed _ refl;
+      let bad = rw (first, sees, is, sees_timer, is_timer, kept) at i.ends in absurd (cc));
+  held_carry = λ layout rows voice s desk h first off listed. held_works h first off listed _ refl;
   mask_alone = λ layout desk some high i. (
       let c : nat_le 0xFE desk.cpu.a ≡ true = le-leb 0xFE desk.cpu.a high in
       let bad = rw (some, c) at i.ends in absurd (cc));

@@ -19,12 +19,13 @@ use Rattle.player_memory.specs.declared.conditions.TheConstants.{NO_HARD_RESTART
 use Rattle.player_memory.specs.declared.conditions.TheConstants.{NOTE_VIBRATO, VIBRATO_DELAY, NOTE_PULSE, NOTE_FILTER}
 use Rattle.player_memory.specs.declared.conditions.TheConstants.{VOICE_TEMPO, COMMON_TEMPO, FUNK_TURNS, FUNK_CHOICE}
 use Rattle.player_memory.specs.declared.conditions.TheConstants.{PORTA_DOWN, TONE_PORTA, TIE_NOTE, TRANSPOSES, REPEATS}
-use Rattle.player_memory.specs.declared.conditions.TheConstants.{EFFECTS, ROW_COMMAND}
+use Rattle.player_memory.specs.declared.conditions.TheConstants.{EFFECTS, ROW_COMMAND, FIRST_HOLDS}
 use Rattle.player_memory.specs.declared.labels.TheConstants.{WAVE_LEFTS, SPEED_LEFTS, GATE_TIMERS, LENT}
 use Rattle.player_memory.specs.declared.labels.TheConstants.{TRANSPOSE, REPEAT, DELAYS, VIBRATOS, PULSES, FILTERS}
+use Rattle.player_memory.specs.declared.labels.TheConstants.{GATE_FROM, ENVELOPE_FROM}
 use Rattle.player_memory.specs.Rooms.{IsRoom, MayUse}
 use Rattle.player_memory.specs.Variables.{CommonBytesStand}
-use Rattle.player_memory.specs.Playing.{IsListed, own_at, shared_at}
+use Rattle.player_memory.specs.Playing.{IsListed, IsAlone, own_at, shared_at}
 use Rattle.player_text.specs.declared.tick.TheConstants.{FRAME_COUNTED, NOTE_TAKEN, NOTE_BEGUN, PROGRAMS_BEGUN}
 use Rattle.player_text.specs.declared.tick.TheConstants.{COMMAND_BEGUN}
 use Rattle.player_text.specs.declared.commands.TheConstants.{AD_SET, SR_SET, WAVE_SET, WAVE_POINTER_SET}
@@ -134,6 +135,19 @@ pub record FetchesIdle (layout : Layout) (voice : ℕ) (desk : Desk) : Type 0 wh
 
 -- ---- what the facts of a song keep
 
+-- the number stands alone from which on instruments hold the gate, or the envelope, and an instrument's is below it
+pub record IsBelow (layout : Layout) (rows : ℕ) (at : ℕ → ℕ) (label instrument : ℕ) : Type 0 where
+  pub from : ℕ
+  pub stands : IsAlone layout rows at label from
+  pub below : instrument < from
+
+-- where the instruments stand in the order of what they hold, this one is below the first of those that hold what lines
+-- are kept for
+pub record IsBelowHolders (layout : Layout) (rows : ℕ) (at : ℕ → ℕ) (instrument : ℕ) : Type 0 where
+  pub ordered : layout.holds FIRST_HOLDS ≡ false
+  pub gate : layout.holds LEGATO ≡ true → IsBelow layout rows at GATE_FROM instrument
+  pub envelope : layout.holds NO_HARD_RESTART ≡ true → IsBelow layout rows at ENVELOPE_FROM instrument
+
 pub record FactsIdle (layout : Layout) (rows voice : ℕ) (s : Playing) (desk : Desk) : Type 0 where
   -- the row's command isn't 3: where a note is taken, and where the gate is closed before one
   pub tone : layout.holds ROW_COMMAND ≡ true → s.voice.new_command < 256 → s.voice.new_command ≢ 3 →
@@ -157,15 +171,34 @@ pub record FactsIdle (layout : Layout) (rows voice : ℕ) (s : Playing) (desk : 
       Idles layout (part NOTE_PULSE 0 PROGRAMS_BEGUN.now) desk (Y ∷ [])
   pub filter : IsListed layout rows desk.at FILTERS desk.cpu.y 0 →
       Idles layout (part NOTE_FILTER 0 PROGRAMS_BEGUN.now) desk (Y ∷ [])
-  -- the instrument's gateoff timer has neither bit $40 nor bit $80, and behind the lines the carry says so
-  pub held : (timer : ℕ) → IsListed layout rows desk.at GATE_TIMERS s.voice.instrument timer → timer < 0x40 →
+  -- where the lines are kept for a first instrument that holds more than another, the instrument's gateoff timer has
+  -- neither bit $40 nor bit $80, and behind the lines the carry says so
+  pub held : layout.holds FIRST_HOLDS ≡ true → (timer : ℕ) →
+      IsListed layout rows desk.at GATE_TIMERS s.voice.instrument timer → timer < 0x40 →
       Idles layout (part HELD_NOTE 0 GATE_CLOSED.now) desk []
-  pub held_carry : (timer : ℕ) → IsListed layout rows desk.at GATE_TIMERS s.voice.instrument timer → timer < 0x40 →
+  pub held_carry : layout.holds FIRST_HOLDS ≡ true → (timer : ℕ) →
+      IsListed layout rows desk.at GATE_TIMERS s.voice.instrument timer → timer < 0x40 →
+      (ran each_one layout (part HELD_NOTE 0 GATE_CLOSED.now) desk).desk.cpu.c ≡ false
+  -- where they aren't, its number is below those of the instruments that hold the gate and the envelope, and behind the
+  -- lines the carry says so, where those for one of the two are kept
+  pub ordered : IsBelowHolders layout rows desk.at s.voice.instrument →
+      Idles layout (part HELD_NOTE 0 GATE_CLOSED.now) desk []
+  pub ordered_carry : IsBelowHolders layout rows desk.at s.voice.instrument →
+      (layout.holds LEGATO ≡ true) ⊎ (layout.holds NO_HARD_RESTART ≡ true) →
       (ran each_one layout (part HELD_NOTE 0 GATE_CLOSED.now) desk).desk.cpu.c ≡ false
   -- the flags show the two bits: N bit $40, and the carry bit $80
   pub legato : desk.cpu.n ≡ false → Idles layout (part LEGATO 0 GATE_CLOSED.now) desk (A ∷ Y ∷ Carry ∷ [])
   pub no_hard_restart : desk.cpu.c ≡ false →
-      Idles layout (part NO_HARD_RESTART 0 GATE_CLOSED.now) desk (A ∷ Y ∷ Carry ∷ [])
+      Idles layout (part NO_HARD_RESTART 1 GATE_CLOSED.now) desk (A ∷ Y ∷ Carry ∷ [])
+  -- A is the instrument's number, which is below the one that it is compared with: behind that the carry is off
+  pub gate_from : IsBelow layout rows desk.at GATE_FROM desk.cpu.a →
+      Idles layout (part LEGATO 1 GATE_CLOSED.now) desk (A ∷ Y ∷ [])
+  pub gate_carry : IsBelow layout rows desk.at GATE_FROM desk.cpu.a →
+      (ran each_one layout (part LEGATO 1 GATE_CLOSED.now) desk).desk.cpu.c ≡ false
+  pub envelope_from : IsBelow layout rows desk.at ENVELOPE_FROM desk.cpu.a →
+      Idles layout (part NO_HARD_RESTART 0 GATE_CLOSED.now) desk (A ∷ Y ∷ [])
+  pub envelope_carry : IsBelow layout rows desk.at ENVELOPE_FROM desk.cpu.a →
+      (ran each_one layout (part NO_HARD_RESTART 0 GATE_CLOSED.now) desk).desk.cpu.c ≡ false
   -- A is a left side of the wave table, as it is stored
   pub special : desk.cpu.a < 0xE0 → Idles layout (part SPECIAL_ROW 0 WAVE_STEP.now) desk (A ∷ Y ∷ [])
   -- A is the byte of a run of rests, and the carry is on

@@ -1,29 +1,34 @@
 -- The bytes that are kept under a condition alone: where each line that loads or stores one may be left out, and that
 -- no line reads one but under its condition. A law on lines that load such a byte is about layouts that keep it. This
 -- is the project's own player.
-use Rattle.std.specs.Prelude.{◌≡◌, ◌≢◌, ℕ, ◌%◌, ◌/◌, ◌==◌, ◌+◌, ◌&&◌, ◌||◌, if◌then◌else◌}
+use Rattle.std.specs.Prelude.{◌≡◌, ◌≢◌, ℕ, ◌%◌, ◌/◌, ◌<◌, ◌==◌, ◌+◌, ◌&&◌, ◌||◌, if◌then◌else◌}
 use Rattle.std.specs.Prelude.{Bool, true, false, List, [], ◌∷◌}
 use Rattle.cpu6502.specs.declared.mnemonic.Mnemonic.TheVariants.{Lda}
+use Rattle.play_model.specs.LookUps.{LookUps}
 use Rattle.play_model.specs.State.{Playing, Common}
+use Rattle.song_facts.specs.declared.hold.Hold.TheVariants.{Envelope, Gate}
+use Rattle.song_facts.specs.Facts.{IsLegato}
 use Rattle.scopes.specs.declared.line.Line.TheVariants.{With}
 use Rattle.scopes.specs.declared.line.Operand.{Operand}
 use Rattle.scopes.specs.declared.line.Operand.TheVariants.{Number, Var, Own, Entry, Pointed}
 use Rattle.scopes.specs.Desk.{Desk, Layout, operand_place}
 use Rattle.scopes.specs.Steps.{is_store}
 use Rattle.scopes.specs.Trees.{Tree, WithTree, ThenTree, ScopeTree, LoopTree, WhenTree, ChooseTree, tree_of}
-use Rattle.scopes.specs.Meaning.{Outcome, Done, Left, each_one, ran}
+use Rattle.scopes.specs.Meaning.{Outcome, Ran, Done, Left, each_one, ran}
 use Rattle.play_model.specs.declared.options.Options.{Options}
 use Rattle.kept_lines.specs.KeptLines.{keeps}
 use Rattle.player_memory.specs.declared.conditions.TheConstants.{FILTER_USED, SET_VOLUME, PULSE_TABLE, ROW_COMMAND}
 use Rattle.player_memory.specs.declared.conditions.TheConstants.{WAVE_DELAY, NOTE_DEPENDENT, SWINGS, INSTRUMENT_VIBRATO}
 use Rattle.player_memory.specs.declared.conditions.TheConstants.{FUNK_TEMPO, ROW_TONE, ROW_ONCE, WAVE_COMMAND}
 use Rattle.player_memory.specs.declared.conditions.TheConstants.{FILTER_TABLE, EFFECTS, SKIP_FIRST, OWN_TIMER, OWN_WAVE}
-use Rattle.player_memory.specs.declared.conditions.TheConstants.{SUBTUNES}
+use Rattle.player_memory.specs.declared.conditions.TheConstants.{SUBTUNES, FIRST_HOLDS, LEGATO, NO_HARD_RESTART}
 use Rattle.player_memory.specs.declared.labels.TheConstants.{NEW_COMMAND, NEW_PARAM, COMMAND, PARAM, VIB_TIME}
 use Rattle.player_memory.specs.declared.labels.TheConstants.{VIB_DELAY}
 use Rattle.player_memory.specs.declared.labels.TheConstants.{LAST_NOTE, WAVE_TIME, VOLUME, FUNK_ONE, FUNK_TWO, VIBRATOS}
-use Rattle.player_memory.specs.declared.labels.TheConstants.{TICK, KEPT_PARAM, GATE_TIMER, GATE_TIMERS, FIRST_WAVES, ONE_TIMER}
+use Rattle.player_memory.specs.declared.labels.TheConstants.{TICK, KEPT_PARAM, GATE_TIMER, GATE_TIMERS, FIRST_WAVES}
+use Rattle.player_memory.specs.declared.labels.TheConstants.{ONE_TIMER}
 use Rattle.player_memory.specs.declared.labels.TheConstants.{ONE_WAVE, ORDERS_LOW, ORDERS_HIGH, ORDER_LOW, ORDER_HIGH}
+use Rattle.player_memory.specs.declared.labels.TheConstants.{GATE_FROM, ENVELOPE_FROM}
 use Rattle.player_memory.specs.declared.variables.Kept.{Kept as Row}
 use Rattle.player_memory.specs.declared.variables.Kept.TheVariants.{Always, Where, Else}
 use Rattle.player_memory.specs.declared.variables.VoiceByte.{VoiceByte}
@@ -38,12 +43,13 @@ use Rattle.player_text.specs.declared.joints.TheConstants.{EFFECTED}
 use Rattle.player_text.specs.declared.effect.TheConstants.{EFFECT_BEGUN}
 use Rattle.player_text.specs.declared.pitch.TheConstants.{PITCH}
 use Rattle.player_text.specs.declared.fetch.TheConstants.{ROW_AWAITED, ROW_REACHED, FIRST_REACHED, ENTRY_BEGUN}
-use Rattle.player_text.specs.declared.fetch.TheConstants.{ENTRY_READ}
+use Rattle.player_text.specs.declared.fetch.TheConstants.{ENTRY_READ, GATE_CLOSED}
 use Rattle.player_text.specs.declared.filter.TheConstants.{FILTER_REGISTERS}
 use Rattle.player_text.specs.declared.register.TheConstants.{REGISTERS}
 use Rattle.player_text.specs.declared.init.TheConstants.{VARIABLES_CLEARED, FUNK_STARTED, VOICE_STARTED, TEMPO_STARTED}
 use Rattle.player_text.specs.declared.texts.Start.{Start}
 use Rattle.player_text.specs.Texts.{voice_tree, filter_tree, init_tree}
+use Rattle.fetch_code.specs.FetchBlock.{TellsHold}
 use Rattle.idle_parts.specs.Idle.{A, Y, Carry, Kept, AreKept, Idles, HoldsVoice, part}
 
 -- ---- loads
@@ -60,13 +66,37 @@ pub record ShowAlike (layout : Layout) (one other : Tree) (desk : Desk) (kept : 
   pub alike : Alike layout one other desk kept
   pub zero_is : (ran each_one layout one desk).desk.cpu.z ≡ (ran each_one layout other desk).desk.cpu.z
 
--- both sides of a choice compare A with the same byte: they come to their own end, leave each byte, X, the decimal flag,
--- A and Y, and have the same zero flag and carry behind them
+-- a run has left each byte, X and the decimal flag
+pub record StaysBeside (run : Ran) (before : Desk) : Type 0 where
+  pub stays : (place : ℕ) → run.desk.at place ≡ before.at place
+  pub x : run.desk.cpu.x ≡ before.cpu.x
+  pub decimal : run.desk.cpu.d ≡ before.cpu.d
+
+-- both sides of a choice compare A with the same byte: they come to their own end, leave each byte, X, the decimal
+-- flag, A and Y, and have the same zero flag and carry behind them
 pub record CompareAlike (layout : Layout) (one other : Tree) (desk : Desk) : Type 0 where
   pub here : Idles layout one desk (A ∷ Y ∷ [])
   pub there : Idles layout other desk (A ∷ Y ∷ [])
   pub zero_is : (ran each_one layout one desk).desk.cpu.z ≡ (ran each_one layout other desk).desk.cpu.z
   pub carry_is : (ran each_one layout one desk).desk.cpu.c ≡ (ran each_one layout other desk).desk.cpu.c
+
+-- Both sides of a choice find out alike what an instrument holds before a note: they take the same way, and leave each
+-- byte, X and the decimal flag; and at their own end the carry is the same, where lines are kept that ask for it.
+pub record TellAlike (layout : Layout) (one other : Tree) (desk : Desk) : Type 0 where
+  pub way_is : (ran each_one layout one desk).outcome ≡ (ran each_one layout other desk).outcome
+  pub here : StaysBeside (ran each_one layout one desk) desk
+  pub there : StaysBeside (ran each_one layout other desk) desk
+  pub carry_is : layout.holds NO_HARD_RESTART ≡ true → (ran each_one layout one desk).outcome ≡ Done →
+      (ran each_one layout one desk).desk.cpu.c ≡ (ran each_one layout other desk).desk.cpu.c
+
+-- What an instrument holds is found twice: by its gateoff timer, which stands in its list, and by its number, as in a
+-- song whose instruments stand in the order of what they hold; where no lines are kept for the gate it doesn't hold it.
+pub record IsToldTwice (layout : Layout) (rows : ℕ) (at : ℕ → ℕ) (look : LookUps) (instrument : ℕ) : Type 0 where
+  pub timer : IsListed layout rows at GATE_TIMERS instrument (look.instrument instrument).gate_timer
+  pub byte : (look.instrument instrument).gate_timer < 256
+  pub gate : layout.holds LEGATO ≡ true → TellsHold layout rows at GATE_FROM look Gate instrument
+  pub no_gate : layout.holds LEGATO ≡ false → ¬ IsLegato (look.instrument instrument)
+  pub envelope : layout.holds NO_HARD_RESTART ≡ true → TellsHold layout rows at ENVELOPE_FROM look Envelope instrument
 
 -- where the filter is set: A is 0 in front of each load, and what it loads is 0; and the volume is 15
 pub record FilterLoadsIdle (layout : Layout) (c : Common) (desk : Desk) : Type 0 where
@@ -102,11 +132,13 @@ pub record LeavesAll (layout : Layout) (body : Tree) (desk : Desk) (name : ℕ) 
   pub x : (ran each_one layout body desk).desk.cpu.x ≡ desk.cpu.x
   pub decimal : (ran each_one layout body desk).desk.cpu.d ≡ desk.cpu.d
 
--- The width is 0: both sides load its low byte alike, and its high one is idle where A is 0. A row without a command:
--- one side leaves, and the other comes to its own end, which is there too, with 0 in A where a command may run; where
--- none may, it is idle, and what loads the 0 changes A alone. No command runs, and no vibrato of an instrument, as it
--- has no parameter: both sides leave for the same. One first waveform stands for all instruments, and is that of the one
--- in Y: both sides load it. So does one gateoff timer, the voice's, with which A is compared three times.
+-- The width is 0: both sides load its low byte alike, and its high one is idle where A is 0. A row without a
+-- command: one side leaves, and the other comes to its own end, which is there too, with 0 in A where a command may
+-- run; where none may, it is idle, and what loads the 0 changes A alone. No command runs, and no vibrato of an
+-- instrument, as it has no parameter: both sides leave for the same. One first waveform stands for all instruments,
+-- and is that of the one in Y: both sides load it. So does one gateoff timer, the voice's, with which A is compared
+-- three times. What an instrument holds before a note is told by its gateoff timer on one side, and by its number on
+-- the other.
 pub record VoiceLoadsIdle (layout : Layout) (rows : ℕ) (s : Playing) (desk : Desk) : Type 0 where
   pub width_low : layout.holds PULSE_TABLE ≡ true → s.voice.pulse % 256 ≡ 0 →
       Alike layout (part PULSE_TABLE 0 REGISTERS.now) (part PULSE_TABLE 1 REGISTERS.now) desk (Y ∷ Carry ∷ [])
@@ -131,6 +163,8 @@ pub record VoiceLoadsIdle (layout : Layout) (rows : ℕ) (s : Playing) (desk : D
       CompareAlike layout (part OWN_TIMER 0 ROW_REACHED.now) (part OWN_TIMER 1 ROW_REACHED.now) desk
   pub first_reached : layout.holds OWN_TIMER ≡ true → IsAlone layout rows desk.at ONE_TIMER s.voice.gate_timer →
       CompareAlike layout (part OWN_TIMER 0 FIRST_REACHED.now) (part OWN_TIMER 1 FIRST_REACHED.now) desk
+  pub first_holds : (look : LookUps) → IsToldTwice layout rows desk.at look s.voice.instrument →
+      TellAlike layout (part FIRST_HOLDS 0 GATE_CLOSED.now) (part FIRST_HOLDS 1 GATE_CLOSED.now) desk
 
 abbrev pub VoiceLoads : Type 0
 VoiceLoads =
@@ -184,8 +218,8 @@ LeaveSame layout stored one other desk =
 abbrev pub NOTE_STORES : List Operand
 NOTE_STORES = Own WAVE_TIME ∷ Own COMMAND ∷ Own PARAM ∷ []
 
--- a gateoff timer is set; a note begins, and a command 8 begins a wave program; a number sets the frequency; an entry is read; a row's command
--- is taken; and a subtune begins
+-- a gateoff timer is set; a note begins, and a command 8 begins a wave program; a number sets the frequency; an entry is
+-- read; a row's command is taken; and a subtune begins
 pub record StoresIdle : Type 0 where
   pub timer : StoresBy (Entry GATE_TIMERS) (Own GATE_TIMER ∷ []) (part OWN_TIMER 0 GATE_TIMER_SET.now)
       (Y ∷ Carry ∷ [])

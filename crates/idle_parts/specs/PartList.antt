@@ -22,6 +22,7 @@ use Rattle.player_memory.specs.declared.conditions.TheConstants.{GATE_NOTE, NOTE
 use Rattle.player_memory.specs.declared.conditions.TheConstants.{NOTE_FILTER}
 use Rattle.player_memory.specs.declared.conditions.TheConstants.{VOICE_TEMPO, COMMON_TEMPO, FUNK_TURNS, FUNK_CHOICE}
 use Rattle.player_memory.specs.declared.conditions.TheConstants.{OWN_TIMER, OWN_WAVE, SUBTUNES, VOICE_TWO, VOICE_THREE}
+use Rattle.player_memory.specs.declared.conditions.TheConstants.{FIRST_HOLDS}
 use Rattle.player_memory.specs.declared.conditions.TheConstants.{EFFECTS, FILTER_USED}
 use Rattle.player_text.specs.declared.commands.TheConstants.{AD_SET, CUTOFF_SET, FILTER_CONTROL_SET}
 use Rattle.player_text.specs.declared.commands.TheConstants.{FILTER_POINTER_SET, FUNK_CHOSEN}
@@ -111,8 +112,11 @@ pub record PartsAreThese : Type 0 where
   pub note_pulse : bodies NOTE_PULSE voice_tree ≡ part NOTE_PULSE 0 PROGRAMS_BEGUN.now ∷ []
   pub note_filter : bodies NOTE_FILTER voice_tree ≡ part NOTE_FILTER 0 PROGRAMS_BEGUN.now ∷ []
   pub held_note : bodies HELD_NOTE voice_tree ≡ part HELD_NOTE 0 GATE_CLOSED.now ∷ []
-  pub legato : bodies LEGATO voice_tree ≡ part LEGATO 0 GATE_CLOSED.now ∷ []
-  pub no_hard_restart : bodies NO_HARD_RESTART voice_tree ≡ part NO_HARD_RESTART 0 GATE_CLOSED.now ∷ []
+  pub first_holds : bodies FIRST_HOLDS voice_tree
+      ≡ part FIRST_HOLDS 0 GATE_CLOSED.now ∷ part FIRST_HOLDS 1 GATE_CLOSED.now ∷ []
+  pub legato : bodies LEGATO voice_tree ≡ part LEGATO 0 GATE_CLOSED.now ∷ part LEGATO 1 GATE_CLOSED.now ∷ []
+  pub no_hard_restart : bodies NO_HARD_RESTART voice_tree
+      ≡ part NO_HARD_RESTART 0 GATE_CLOSED.now ∷ part NO_HARD_RESTART 1 GATE_CLOSED.now ∷ []
   pub special_row : bodies SPECIAL_ROW voice_tree ≡ part SPECIAL_ROW 0 WAVE_STEP.now ∷ []
   pub wave_delay : bodies WAVE_DELAY voice_tree
       ≡ part WAVE_DELAY 0 NOTE_BEGUN.now ∷ part WAVE_DELAY 1 NOTE_BEGUN.now ∷ part WAVE_DELAY 0 WAVE_POINTER_SET.now

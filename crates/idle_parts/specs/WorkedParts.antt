@@ -1,5 +1,5 @@
 -- Where parts don't do nothing, worked by hand.
-use Rattle.std.specs.Prelude.{◌≡◌, ◌≢◌, ℕ, ◌+◌, ◌%◌, ◌≤◌, ◌==◌, if◌then◌else◌, not, true, false, [], ◌∷◌}
+use Rattle.std.specs.Prelude.{◌≡◌, ◌≢◌, ℕ, ◌+◌, ◌%◌, ◌≤◌, ◌==◌, ◌&&◌, if◌then◌else◌, not, true, false, [], ◌∷◌}
 use Rattle.cpu6502.specs.declared.mnemonic.Mnemonic.TheVariants.{Dex, Inc, Lda, Sta}
 use Rattle.scopes.specs.declared.line.Operand.TheVariants.{Own, Var}
 use Rattle.play_model.specs.State.{Playing}
@@ -17,11 +17,11 @@ use Rattle.player_memory.specs.declared.conditions.TheConstants.{WAVE_DELAY, SWI
 use Rattle.player_memory.specs.declared.conditions.TheConstants.{HELD_NOTE, NOTE_VIBRATO, VIBRATO_DELAY, NOTE_PULSE}
 use Rattle.player_memory.specs.declared.conditions.TheConstants.{NOTE_FILTER}
 use Rattle.player_memory.specs.declared.conditions.TheConstants.{VOICE_TEMPO, COMMON_TEMPO, FUNK_TURNS, FUNK_CHOICE}
-use Rattle.player_memory.specs.declared.conditions.TheConstants.{SKIP_FIRST, OWN_TIMER, OWN_WAVE, SUBTUNES}
+use Rattle.player_memory.specs.declared.conditions.TheConstants.{SKIP_FIRST, OWN_TIMER, OWN_WAVE, SUBTUNES, FIRST_HOLDS}
 use Rattle.player_memory.specs.declared.labels.TheConstants.{AD, NEW_COMMAND, PULSE_TIME, FILTER_TIME, GATE_TIMERS}
 use Rattle.player_memory.specs.declared.labels.TheConstants.{DELAYS, VIBRATOS, PULSES, FILTERS, VIB_TIME, WAVE_TIME}
 use Rattle.player_memory.specs.declared.labels.TheConstants.{COMMAND, NEW_PARAM, PARAM, KEPT_PARAM, ONE_TIMER, ONE_WAVE}
-use Rattle.player_memory.specs.declared.labels.TheConstants.{ORDER_LOW, ORDER_HIGH}
+use Rattle.player_memory.specs.declared.labels.TheConstants.{ORDER_LOW, ORDER_HIGH, GATE_FROM, ENVELOPE_FROM}
 use Rattle.player_memory.specs.Playing.{IsListed, own_at, shared_at}
 use Rattle.player_text.specs.declared.commands.TheConstants.{AD_SET, TEMPO_SET, FUNK_SET, FUNK_CHOSEN}
 use Rattle.player_text.specs.declared.slide.TheConstants.{PORTA_STEP, TONE_STEP}
@@ -32,15 +32,19 @@ use Rattle.player_text.specs.declared.pitch.TheConstants.{PITCH}
 use Rattle.player_text.specs.declared.filter.TheConstants.{FILTER_REGISTERS}
 use Rattle.player_text.specs.declared.register.TheConstants.{REGISTERS}
 use Rattle.player_text.specs.Texts.{voice_tree, filter_tree}
-use Rattle.player_text.specs.declared.tick.TheConstants.{GATE_TIMER_SET, NOTE_TAKEN, NOTE_BEGUN, PROGRAMS_BEGUN, COMMAND_BEGUN}
-use Rattle.player_text.specs.declared.tick.TheConstants.{BARE}
+use Rattle.player_text.specs.declared.tick.TheConstants.{GATE_TIMER_SET, NOTE_TAKEN, NOTE_BEGUN, PROGRAMS_BEGUN}
+use Rattle.player_text.specs.declared.tick.TheConstants.{COMMAND_BEGUN, BARE}
 use Rattle.player_text.specs.declared.wave.TheConstants.{WAVE_STEP}
 use Rattle.player_text.specs.declared.fetch.TheConstants.{ROW_AWAITED, ENTRY_BEGUN, ENTRY_READ, GATE_CLOSED}
 use Rattle.player_text.specs.declared.init.TheConstants.{VOICE_STARTED}
 use Rattle.idle_parts.specs.Idle.{A, Y, Carry, Idles, HoldsVoice, bodies, front, part}
 use Rattle.idle_parts.specs.Fronts.{Finds}
+use Rattle.idle_parts.specs.IdleParts.{IsBelow}
+use Rattle.play_model.specs.LookUps.{LookUps}
 use Rattle.idle_parts.specs.Places.{leaves, may_end}
-use Rattle.idle_parts.specs.KeptBytes.{Alike, ShowAlike, CompareAlike, Clears, LeavesAll, IdlesBut, LeaveSame, NOTE_STORES, KEEPING, reads_under}
+use Rattle.idle_parts.specs.KeptBytes.{Alike, ShowAlike, CompareAlike, TellAlike, IsToldTwice, Clears}
+use Rattle.idle_parts.specs.KeptBytes.{LeavesAll, IdlesBut}
+use Rattle.idle_parts.specs.KeptBytes.{LeaveSame, NOTE_STORES, KEEPING, reads_under}
 
 -- an instruction, a leave under condition 5, and another one
 abbrev pub small : Tree
@@ -66,6 +70,18 @@ without_voice = record flat { holds = λ condition. not (condition == VOICE_TEMP
 abbrev pub without_effects : Layout
 without_effects = record flat { holds = λ condition. not (condition == EFFECTS) }
 
+-- without those for a first instrument that holds more than another, and without those for a held gate or envelope
+abbrev pub in_order : Layout
+in_order = record flat { holds = λ condition. not (condition == FIRST_HOLDS) }
+
+abbrev pub without_gate : Layout
+without_gate = record flat { holds = λ condition. not (condition == FIRST_HOLDS) && not (condition == LEGATO) }
+
+abbrev pub without_envelope : Layout
+without_envelope = record flat {
+  holds = λ condition. not (condition == FIRST_HOLDS) && not (condition == NO_HARD_RESTART);
+}
+
 -- a desk in it with these in A and Y, and 2 in each place
 abbrev pub desk_with : ℕ → ℕ → Desk
 desk_with a y = record {
@@ -88,6 +104,25 @@ desk_with a y = record {
 -- and this byte at one of them
 abbrev pub desk_but : ℕ → ℕ → ℕ → Desk
 desk_but there byte a = record (desk_with a 0) { at = λ place. if place == there then byte else 2 }
+
+-- instrument 2 has this gateoff timer, and from these numbers on instruments hold the gate and the envelope
+abbrev pub desk_held : ℕ → ℕ → ℕ → Desk
+desk_held timer gate envelope = record (desk_with 0 0) {
+  at = λ place.
+      if place == GATE_TIMERS + 2 then timer
+      else if place == GATE_FROM then gate
+      else if place == ENVELOPE_FROM then envelope
+      else 2;
+}
+
+-- with the carry on
+abbrev pub carry_on : Desk → Desk
+carry_on desk = record desk { cpu = record desk.cpu { c = true } }
+
+abbrev pub IsTold : Layout → ℕ → ℕ → ℕ → Type 0
+IsTold layout timer gate envelope =
+    TellAlike layout (part FIRST_HOLDS 0 GATE_CLOSED.now) (part FIRST_HOLDS 1 GATE_CLOSED.now)
+    (desk_held timer gate envelope)
 
 pub record PartsAreWorked : Type 0 where
   -- a command that is done changes a byte, and command 1 leaves the block
@@ -131,7 +166,33 @@ pub record PartsAreWorked : Type 0 where
   pub legato : (layout : Layout) (desk : Desk) → desk.cpu.n ≡ true →
       ¬ Idles layout (part LEGATO 0 GATE_CLOSED.now) desk []
   pub no_hard_restart : (layout : Layout) (desk : Desk) → desk.cpu.c ≡ true →
-      ¬ Idles layout (part NO_HARD_RESTART 0 GATE_CLOSED.now) desk []
+      ¬ Idles layout (part NO_HARD_RESTART 1 GATE_CLOSED.now) desk []
+  -- the number from which on instruments hold the gate is that of the instrument, 2, or one more, and so is that for
+  -- the envelope; the carry says it
+  pub gate_from : ¬ Idles flat (part LEGATO 1 GATE_CLOSED.now) (desk_but GATE_FROM 2 2) []
+  pub gate_behind : Idles flat (part LEGATO 1 GATE_CLOSED.now) (desk_but GATE_FROM 3 2) (A ∷ Y ∷ Carry ∷ [])
+  pub envelope_from : ¬ Idles flat (part NO_HARD_RESTART 0 GATE_CLOSED.now) (desk_but ENVELOPE_FROM 2 2) (Carry ∷ [])
+  pub envelope_behind : Idles flat (part NO_HARD_RESTART 0 GATE_CLOSED.now) (desk_but ENVELOPE_FROM 3 2)
+      (A ∷ Y ∷ Carry ∷ [])
+  -- with the carry on in front of such a comparison it is off behind it
+  pub gate_clears : ¬ Idles flat (part LEGATO 1 GATE_CLOSED.now) (carry_on (desk_but GATE_FROM 3 2)) (Carry ∷ [])
+  -- an instrument isn't below its own number, nor told twice where its timer and a number contradict each other
+  pub not_below : (rows : ℕ) → ¬ IsBelow flat rows (desk_but GATE_FROM 2 2).at GATE_FROM 2
+  pub not_twice : (rows : ℕ) (look : LookUps) → ¬ IsToldTwice flat rows (desk_held 0x42 3 2).at look 2
+  -- where the instruments are in order, both together; with no lines for the gate its number isn't read, and with none
+  -- for the envelope that one's isn't
+  pub ordered : Idles in_order (part HELD_NOTE 0 GATE_CLOSED.now) (desk_held 0 3 3) (Carry ∷ [])
+  pub ordered_gate : ¬ Idles in_order (part HELD_NOTE 0 GATE_CLOSED.now) (desk_held 0 2 3) []
+  pub ordered_envelope : ¬ Idles in_order (part HELD_NOTE 0 GATE_CLOSED.now) (desk_held 0 3 2) (Carry ∷ [])
+  pub no_gate : Idles without_gate (part HELD_NOTE 0 GATE_CLOSED.now) (desk_held 0 2 3) (Carry ∷ [])
+  pub no_envelope : Idles without_envelope (part HELD_NOTE 0 GATE_CLOSED.now) (desk_held 0 3 2) (Carry ∷ [])
+  -- a timer of $42 or $82 is that of an instrument that holds its gate, or its envelope, exactly by such a number
+  pub told_gate : IsTold flat 0x42 2 2
+  pub not_gate : ¬ IsTold flat 0x42 3 2
+  pub told_envelope : IsTold flat 0x82 3 2
+  pub not_envelope : ¬ IsTold flat 0x82 3 3
+  pub told_none : IsTold flat 0x3F 3 3
+  pub none_holds : ¬ IsTold flat 0x3F 3 2
   pub once : (layout : Layout) (desk : Desk) → desk.cpu.a ≡ 5 →
       ¬ Idles layout (part ROW_ONCE 0 COMMAND_BEGUN.now) desk []
   -- a part that isn't there does nothing of its own, and isn't one that idles
@@ -146,11 +207,11 @@ pub record PartsAreWorked : Type 0 where
       ¬ Idles layout (part SPECIAL_ROW 0 WAVE_STEP.now) desk []
   -- a gateoff timer of $40 leaves the gate, and one of $80 sets the carry
   pub held : (layout : Layout) (rows voice : ℕ) (s : Playing) (desk : Desk) →
-      HoldsVoice layout rows voice s desk → layout.holds LEGATO ≡ true →
+      HoldsVoice layout rows voice s desk → layout.holds FIRST_HOLDS ≡ true → layout.holds LEGATO ≡ true →
       IsListed layout rows desk.at GATE_TIMERS s.voice.instrument 0x40 →
       ¬ Idles layout (part HELD_NOTE 0 GATE_CLOSED.now) desk []
   pub held_carry : (layout : Layout) (rows voice : ℕ) (s : Playing) (desk : Desk) →
-      HoldsVoice layout rows voice s desk → desk.cpu.c ≡ false →
+      HoldsVoice layout rows voice s desk → layout.holds FIRST_HOLDS ≡ true → desk.cpu.c ≡ false →
       IsListed layout rows desk.at GATE_TIMERS s.voice.instrument 0x80 →
       ¬ Idles layout (part HELD_NOTE 0 GATE_CLOSED.now) desk (Carry ∷ [])
   -- a first waveform from $FE on is a mask: it leaves the waveform as it is

@@ -8,7 +8,8 @@
 //! alone.
 //!
 //! It has no code. It stands on `scopes` for what lines mean, on `player_memory` for memories that hold a state, on
-//! `player_text` for the blocks, and on `frame_code` for a frame. Nothing stands on it: the blocks' own theorems
+//! `player_text` for the blocks, on `song_facts` and `fetch_code` for what instruments hold, and on `frame_code` for a
+//! frame. Nothing stands on it: the blocks' own theorems
 //! speak of any conditions. See `docs/player-blocks.md`.
 #![tactic(auto)]
 

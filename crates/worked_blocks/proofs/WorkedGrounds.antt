@@ -1,5 +1,5 @@
 -- A voice in its song, and the code that fetches its row, worked.
-use Rattle.std.proofs.Common.{◌≡◌, ℕ, zero, suc, ◌+◌, ◌-◌, ◌%◌, ◌<◌, ◌≤◌, true, false}
+use Rattle.std.proofs.Common.{◌≡◌, ℕ, zero, suc, ◌+◌, ◌-◌, ◌%◌, ◌<◌, ◌≤◌, ◌↔◌, true, false}
 use Rattle.std.proofs.Common.{nat_lt, nat_le}
 use Rattle.std.proofs.Common.{pos, All, [], ◌∷◌, slice_index, slice_index_or, refl, sym, ap, ◌∙◌, subst}
 use Rattle.std.proofs.Common.{arith}
@@ -10,6 +10,7 @@ use Rattle.song_model.specs.Endless.{IsPatternByte}
 use Rattle.song_model.specs.Walk.{played, prefix_of, cycle_of, no_step}
 use Rattle.song_model.specs.Places.{first_place, place_of, place_after, prefix_places, cycle_places}
 use Rattle.play_model.specs.LookUps.{LookUps}
+use Rattle.song_facts.specs.Hold.{held_by, how_much}
 use Rattle.base.proofs.Laws.{All-get_or_any}
 use Rattle.packed_form.specs.declared.entries.EntryKind.TheVariants.{Note, Rests}
 use Rattle.packed_form.specs.PackedSpells.{PackedSpells}
@@ -27,8 +28,9 @@ use Rattle.player_memory.specs.WorkedFetching.{its_rows, its_packed}
 use Rattle.player_memory.proofs.Laws.{IsLaid, room_in, uses_in, behind_slides, playing_in, note_is, each_is}
 use Rattle.fetch_code.specs.FetchBlock.{IsKept}
 use Rattle.worked_blocks.specs.WorkedFetches.{laid, one_timed, its_order, at_start, at_first, in_run, at_note}
-use Rattle.worked_blocks.specs.WorkedFetches.{with_one_timer}
-use Rattle.worked_blocks.specs.WorkedGrounds.{looked_up, on_row, on, IsSung, HasOrderIn, HasRowsIn, HasNoteIn}
+use Rattle.worked_blocks.specs.WorkedFetches.{with_one_timer, in_order, at_held}
+use Rattle.worked_blocks.specs.WorkedGrounds.{timed_up, looked_up, on_row, on, IsSung, HasOrderIn}
+use Rattle.worked_blocks.specs.WorkedGrounds.{HasRowsIn, HasNoteIn, HasHeldIn}
 use Rattle.worked_blocks.specs.WorkedGrounds.{GroundsAreWorked}
 
 -- ---- the room, and the voice
@@ -254,9 +256,9 @@ pattern_bytes layout alike at has (suc (suc zero)) few =
     listed layout alike at PATTERNS 2 0x1142 0 (rw has.address refl) has.last (omega arith) (omega arith)
 pattern_bytes layout alike at has (suc (suc (suc more))) few = absurd (omega (arith, few))
 
-pattern_at : (look : LookUps) (layout : Layout) → IsAlike layout → (at : ℕ → ℕ) → HasPatternAt layout at →
-    IsPattern layout 4 at (looked_up look) 0 (its_packed 0)
-pattern_at look layout alike at has =
+pattern_at : (timer : ℕ) (look : LookUps) (layout : Layout) → IsAlike layout → (at : ℕ → ℕ) → HasPatternAt layout at →
+    IsPattern layout 4 at (timed_up timer look) 0 (its_packed 0)
+pattern_at timer look layout alike at has =
     let address = has.address in record {
       spells = its_spelling;
       few = omega arith;
@@ -274,12 +276,12 @@ pattern_at look layout alike at has =
     }
 
 -- each play is one of it
-patterns_at : (look : LookUps) (layout : Layout) → IsAlike layout → (at : ℕ → ℕ) → HasPatternAt layout at →
-    (n : ℕ) → IsPattern layout 4 at (looked_up look) (played its_order n).pattern
+patterns_at : (timer : ℕ) (look : LookUps) (layout : Layout) → IsAlike layout → (at : ℕ → ℕ) → HasPatternAt layout at →
+    (n : ℕ) → IsPattern layout 4 at (timed_up timer look) (played its_order n).pattern
     (its_packed (played its_order n).pattern)
-patterns_at look layout alike at has n =
-    subst (λ p. IsPattern layout 4 at (looked_up look) p (its_packed p)) (sym (plays_zero n))
-    (pattern_at look layout alike at has)
+patterns_at timer look layout alike at has n =
+    subst (λ p. IsPattern layout 4 at (timed_up timer look) p (its_packed p)) (sym (plays_zero n))
+    (pattern_at timer look layout alike at has)
 
 pattern_here : HasPatternAt (laid false) (at_note 2)
 pattern_here = record {
@@ -295,8 +297,10 @@ pattern_here = record {
 
 pub rows : (look : LookUps) → HasRowsIn (at_note 2) (looked_up look) (on_row 2)
 rows look = record {
-  pattern = patterns_at look (laid false) laid_alike (at_note 2) pattern_here;
+  pattern = patterns_at 2 look (laid false) laid_alike (at_note 2) pattern_here;
   timer = λ kept. here GATE_TIMERS 1 0x1121 2 refl refl (omega arith) (omega arith);
+  gates = λ out. absurd (cc out);
+  envelopes = λ out. absurd (cc out);
   one_timer = λ out. absurd (cc out);
   timer_byte = omega arith;
   tick = omega arith;
@@ -341,8 +345,10 @@ pattern_alone = record {
 
 one_timer : (look : LookUps) → HasNoteIn one_timed (with_one_timer 2 (at_note 2)) look
 one_timer look = record {
-  pattern = patterns_at look one_timed one_alike (with_one_timer 2 (at_note 2)) pattern_alone;
+  pattern = patterns_at 2 look one_timed one_alike (with_one_timer 2 (at_note 2)) pattern_alone;
   timer = λ kept. absurd (cc kept);
+  gates = λ out kept. absurd (cc kept);
+  envelopes = λ out kept. absurd (cc kept);
   one_timer = λ out. record {
     elsewhere = behind_slides one_timed one_alike.stands 0x1128 (omega arith) (omega arith);
     reads = refl;
@@ -372,6 +378,73 @@ one_timer look = record {
   };
 }
 
+-- the same in the order of what instruments hold
+ordered_alike : IsAlike in_order
+ordered_alike =
+    record { stands = record { variables = refl; low = refl; high = refl; pointer = refl }; reads = refl }
+
+pattern_held : (timer gate envelope : ℕ) → HasPatternAt in_order (at_held timer gate envelope)
+pattern_held timer gate envelope = record {
+  address = refl;
+  lows = refl;
+  highs = refl;
+  low = refl;
+  high = refl;
+  first = refl;
+  second = refl;
+  last = refl;
+}
+
+ordered : (look : LookUps) (timer gate envelope : ℕ) → timer < 256 →
+    (gate ≤ 1) ↔ (2 ≤ how_much (held_by timer)) → (envelope ≤ 1) ↔ (1 ≤ how_much (held_by timer)) →
+    HasHeldIn in_order timer gate envelope look
+ordered look timer gate envelope small tells_gate tells_envelope = record {
+  pattern = patterns_at timer look in_order ordered_alike (at_held timer gate envelope)
+      (pattern_held timer gate envelope);
+  timer = λ first. absurd (cc first);
+  gates = λ out kept. record {
+    from = gate;
+    stands = record {
+      elsewhere = behind_slides in_order ordered_alike.stands 0x1129 (omega arith) (omega arith);
+      reads = refl;
+      is = refl;
+    };
+    tells = tells_gate;
+  };
+  envelopes = λ out kept. record {
+    from = envelope;
+    stands = record {
+      elsewhere = behind_slides in_order ordered_alike.stands 0x112A (omega arith) (omega arith);
+      reads = refl;
+      is = refl;
+    };
+    tells = tells_envelope;
+  };
+  one_timer = λ out. absurd (cc out);
+  timer_byte = small;
+  tick = omega arith;
+  gate_timer = omega arith;
+  command = omega arith;
+  keeps = record {
+    gate = λ is. refl;
+    tone = λ is. refl;
+    legato = λ is. refl;
+    soft = λ is. refl;
+    shared = record {
+      tone = λ on. refl;
+      slide = λ on. refl;
+      once = λ on. refl;
+      delay = λ on. refl;
+      command = λ on. refl;
+      legato = λ on. refl;
+      soft = λ on. refl;
+      filter = λ on. refl;
+      control = λ on. refl;
+      cutoff = λ on. refl;
+    };
+  };
+}
+
 pub grounds_are_worked : (look : LookUps) → GroundsAreWorked look
 grounds_are_worked look = record {
   room = room;
@@ -386,4 +459,9 @@ grounds_are_worked look = record {
   orderlist = orderlist;
   rows = rows look;
   one_timer = one_timer look;
+  gate = ordered look 0x42 1 1 (omega arith) (λ h. omega arith, λ h. omega arith) (λ h. omega arith, λ h. omega arith);
+  envelope = ordered look 0x82 2 1 (omega arith) (λ h. omega (arith, h), λ h. omega (arith, h))
+      (λ h. omega arith, λ h. omega arith);
+  neither = ordered look 0x3F 2 2 (omega arith) (λ h. omega (arith, h), λ h. omega (arith, h))
+      (λ h. omega (arith, h), λ h. omega (arith, h));
 }

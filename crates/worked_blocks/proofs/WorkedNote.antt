@@ -12,7 +12,7 @@ use Rattle.song_facts.specs.declared.facts.Fact.TheVariants.{RowTone, RowSlide, 
 use Rattle.song_facts.specs.declared.facts.Fact.TheVariants.{NoHardRestart, WaveDelay, GateNote, NoteVibrato}
 use Rattle.song_facts.specs.declared.facts.Fact.TheVariants.{VibratoDelay, NotePulse, NoteFilter, VoiceTempo}
 use Rattle.song_facts.specs.declared.facts.Fact.TheVariants.{CommonTempo, FunkTurns, FunkChoice, OwnTimer, OwnWave}
-use Rattle.song_facts.specs.declared.facts.Fact.TheVariants.{Subtunes, VoiceTwo, VoiceThree}
+use Rattle.song_facts.specs.declared.facts.Fact.TheVariants.{Subtunes, VoiceTwo, VoiceThree, FirstHolds}
 use Rattle.song_facts.specs.Facts.{is_among, all_facts}
 use Rattle.packed_form.specs.declared.packed_songs.PackedSong.{PackedSong}
 use Rattle.play_model.specs.declared.options.Options.{Options}
@@ -27,9 +27,11 @@ use Rattle.player_memory.specs.Holds.{IsPlayerLayout, PatternStands}
 use Rattle.player_memory.specs.Rooms.{IsRoom, IsElsewhere, MayUse, MayUseSlide}
 use Rattle.player_memory.specs.Playing.{place_in, IsListed}
 use Rattle.player_memory.specs.SongLists.{SongList, FrequencyLows, FrequencyHighs, Lefts, Rights, Periods, Instruments}
-use Rattle.player_memory.specs.SongLists.{OneTimer, OneWave, OrderLows, OrderHighs, PatternLows, PatternHighs}
+use Rattle.player_memory.specs.SongLists.{OneTimer, OneWave, GateFrom, EnvelopeFrom}
+use Rattle.player_memory.specs.SongLists.{OrderLows, OrderHighs, PatternLows, PatternHighs}
 use Rattle.player_memory.specs.SongLists.{OrderBytes, PatternBytes}
 use Rattle.player_memory.specs.SongLists.{HasNumber, HasSongLists, list_label, list_byte, ListsStand}
+use Rattle.player_memory.specs.SongLists.{has_gate_from, has_envelope_from}
 use Rattle.init_code.specs.InitBlock.{IsOutOf, MaySetTimer}
 use Rattle.frame_code.specs.InitBlock.{IsCalledWith, ClearsVariables, HaveOrders, ReadsOffTimer}
 use Rattle.worked_blocks.specs.WorkedNote.{note_packed, layout_with, mixed_layout, note_memory, note_desk, NoteIsLaid}
@@ -139,6 +141,12 @@ module _ (several : Bool) where
   unfolding instrument_at
   one_wave_stands any = refl
 
+  gate_from_stands : (any : PackedSong) → all_stand any GateFrom 0 1 ≡ true
+  gate_from_stands any = refl
+
+  envelope_from_stands : (any : PackedSong) → all_stand any EnvelopeFrom 0 1 ≡ true
+  envelope_from_stands any = refl
+
   orders_stand : (any : PackedSong) (subtune channel : ℕ) → subtune < 1 → channel < 3 →
       all_stand any (OrderBytes subtune channel) 0 3 ≡ true
   orders_stand any zero zero one few = refl
@@ -174,6 +182,9 @@ module _ (several : Bool) where
       has.from has.to
   lists_stand any OneTimer number is has = here any OneTimer 0 1 (one_timer_stands any) number has.from has.to
   lists_stand any OneWave number is has = here any OneWave 0 1 (one_wave_stands any) number has.from has.to
+  lists_stand any GateFrom number is has = here any GateFrom 0 1 (gate_from_stands any) number has.from has.to
+  lists_stand any EnvelopeFrom number is has =
+      here any EnvelopeFrom 0 1 (envelope_from_stands any) number has.from has.to
   lists_stand any OrderLows number is has = here any OrderLows 0 3 refl number has.from has.to
   lists_stand any OrderHighs number is has = here any OrderHighs 0 3 refl number has.from has.to
   lists_stand any PatternLows number is has = here any PatternLows 0 2 refl number has.from has.to
@@ -253,6 +264,8 @@ module _ (several : Bool) where
     lists = λ list number is has. from_listed (lists_stand any list number is has);
     timer = omega arith;
     wave = omega arith;
+    gates = omega arith;
+    envelopes = omega arith;
     orders = orders;
     patterns = patterns;
   }
@@ -390,7 +403,19 @@ module _ (several : Bool) where
       let is : 0x11 ≡ 9 = (has.lists OneWave 0 one (record { from = omega arith; to = omega arith })).is in
       omega (arith, is)
 
-  no_order : (any : PackedSong) → ¬ HasSongLists (layout_with several) (note_packed any) (put note_memory 0x4002 1)
+  no_gate_from : (any : PackedSong) → has_gate_from (note_packed any) ≡ true →
+      ¬ HasSongLists (layout_with several) (note_packed any) (put note_memory 0x4200 1)
+  no_gate_from any ordered has =
+      let is : 1 ≡ 2 = (has.lists GateFrom 0 ordered (record { from = omega arith; to = omega arith })).is in
+      omega (arith, is)
+
+  no_envelope_from : (any : PackedSong) → has_envelope_from (note_packed any) ≡ true →
+      ¬ HasSongLists (layout_with several) (note_packed any) (put note_memory 0x4300 1)
+  no_envelope_from any ordered has =
+      let is : 1 ≡ 2 = (has.lists EnvelopeFrom 0 ordered (record { from = omega arith; to = omega arith })).is in
+      omega (arith, is)
+
+  no_order : (any : PackedSong) → ¬ HasSongLists (layout_with several) (note_packed any) (put note_memory 0x4802 1)
   no_order any has =
       let bytes =
       has.lists (OrderBytes 0 0) 2 (omega arith, omega arith) (record { from = omega arith; to = omega arith }) in
@@ -434,6 +459,8 @@ laid any = record {
   last_frequency = no_last true any;
   one_timer = no_timer true any;
   one_wave = no_first_wave true any;
+  gate_from = no_gate_from true any;
+  envelope_from = no_envelope_from true any;
   order = no_order true any;
   pattern = no_pattern true any;
   slide = no_slide true any;
@@ -467,6 +494,7 @@ are_marked several OwnWave on = refl
 are_marked several Subtunes on = on
 are_marked several VoiceTwo on = refl
 are_marked several VoiceThree on = refl
+are_marked several FirstHolds on = refl
 
 begins : (any : PackedSong) (desk : Desk) (o : Options) → NoteBegins (note_packed any) desk o
 begins any desk o = record {
@@ -482,9 +510,9 @@ begins any desk o = record {
 orders_are_worked : NoteHasOrders
 orders_are_worked = record {
   has = have_orders false;
-  none = λ have. (let is : 0 ≡ 0x40 = (have refl 0 (omega arith)).high_is in omega (arith, is));
+  none = λ have. (let is : 0 ≡ 0x48 = (have refl 0 (omega arith)).high_is in omega (arith, is));
   low = λ have. (let is : 1 ≡ 0 = (have refl 2 (omega arith)).low_is in omega (arith, is));
-  high = λ have. (let is : 0x42 ≡ 0x41 = (have refl 1 (omega arith)).high_is in omega (arith, is));
+  high = λ have. (let is : 0x4A ≡ 0x49 = (have refl 1 (omega arith)).high_is in omega (arith, is));
   several = λ off. absurd cc;
 }
 

@@ -1,11 +1,14 @@
 -- What is no voice in its song, and what the code that fetches a row doesn't leave, worked.
-use Rattle.std.proofs.Common.{◌≡◌, ℕ, ◌+◌, Bool, true, false, refl, ap, subst, inl, inr, arith}
+use Rattle.std.proofs.Common.{◌≡◌, ℕ, ◌+◌, ◌<◌, ◌≤◌, Bool, true, false, refl, ap, subst, inl, inr, arith}
 use Rattle.std.proofs.lemmas.Bool.{both_ways}
 use Rattle.std.proofs.lemmas.List.Elements.{All-get_or}
 use Rattle.song_model.specs.Walk.{played, prefix_of, cycle_of}
 use Rattle.play_model.specs.LookUps.{LookUps}
 use Rattle.play_model.specs.FetchRow.{fetch_row}
 use Rattle.play_model.specs.Frame.{row_fetched}
+use Rattle.song_facts.specs.declared.hold.Hold.{Hold}
+use Rattle.song_facts.specs.Hold.{hold_of, how_much}
+use Rattle.scopes.specs.Desk.{Layout}
 use Rattle.scopes.specs.Meaning.{Outcome, Done}
 use Rattle.player_memory.specs.declared.labels.TheConstants.{TICK, GATE_TIMER, NEW_NOTE, OFFSET, ORDERS}
 use Rattle.player_memory.specs.Playing.{own_at, IsPlaying}
@@ -14,7 +17,7 @@ use Rattle.player_memory.specs.WorkedFetching.{its_packed}
 use Rattle.player_memory.specs.WorkedPlays.{its_desk}
 use Rattle.player_memory.proofs.Laws.{behind_slides}
 use Rattle.player_desk.proofs.Laws.{Fields, fields_of}
-use Rattle.fetch_code.specs.FetchBlock.{IsKept, Fetches}
+use Rattle.fetch_code.specs.FetchBlock.{IsKept, TellsHold, Fetches}
 use Rattle.worked_blocks.specs.WorkedFetches.{laid, its_order, at_note, with_own}
 use Rattle.worked_blocks.specs.WorkedGrounds.{looked_up, on_row, on, HasRowsIn, bare, OthersAreDenied, noted}
 use Rattle.worked_blocks.specs.WorkedGrounds.{LeavesNote, note_run, with_other, LeavingIsWorked}
@@ -36,6 +39,23 @@ first_row look (AtEntry none (Walked some first pattern transpose walk entries))
 first_row look (AtEntry none (NotWalked through first walk)) = omega (arith, through)
 first_row look (InRun some rests inside next) = some refl
 first_row look (InLastRun some rests last next) = some refl
+
+-- a number that stands there tells what this instrument holds
+not_from : {layout : Layout} {at : ℕ → ℕ} {label : ℕ} {look : LookUps} {hold : Hold} (from instrument : ℕ) →
+    TellsHold layout 4 at label look hold instrument → at (layout.address label) ≡ from →
+    how_much hold ≤ how_much (hold_of (look.instrument instrument)) → instrument < from → ⊥
+not_from from instrument tells is holds less =
+    let below = tells.tells.1 holds in
+    let stands = tells.stands.is in
+    omega (arith, below, stands, is, less)
+
+not_below : {layout : Layout} {at : ℕ → ℕ} {label : ℕ} {look : LookUps} {hold : Hold} (from instrument : ℕ) →
+    TellsHold layout 4 at label look hold instrument → at (layout.address label) ≡ from → from ≤ instrument →
+    how_much (hold_of (look.instrument instrument)) < how_much hold → ⊥
+not_below from instrument tells is high less =
+    let stands = tells.stands.is in
+    let holds = tells.tells.0 (omega (arith, stands, is, high)) in
+    omega (arith, holds, less)
 
 pub others_are_denied : (look : LookUps) → OthersAreDenied look
 others_are_denied look = record {
@@ -63,6 +83,12 @@ others_are_denied look = record {
   other_timer = λ has. (let byte = (has.one_timer refl).is in omega (arith, byte));
   own_timer = λ has. (has.one_timer refl).elsewhere.variables (GATE_TIMER + 7) (omega arith) refl;
   unread_timer = λ has. absurd (cc ((has.one_timer refl).reads));
+  gate_behind = λ has. not_from 2 1 (has.gates refl refl) refl (omega arith) (omega arith);
+  gate_from = λ has. not_below 1 1 (has.gates refl refl) refl (omega arith) (omega arith);
+  envelope_behind = λ has. not_from 2 1 (has.envelopes refl refl) refl (omega arith) (omega arith);
+  envelope_from = λ has. not_below 1 1 (has.envelopes refl refl) refl (omega arith) (omega arith);
+  unread_gate_from = λ has. absurd (cc ((has.gates refl refl).stands.reads));
+  by_timer = λ has. (let byte = (has.timer refl).is in omega (arith, byte));
   plain = record {
     gate = λ is. elim is [ inl off ↦ absurd (omega (arith, off)) | inr on ↦ absurd (omega (arith, on)) ];
     tone = λ is. absurd (omega (arith, is));

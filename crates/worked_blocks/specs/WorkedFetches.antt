@@ -1,4 +1,5 @@
--- The code that fetches a row, run by hand: a walk, rests, a note, a play that is repeated, and a row that isn't due.
+-- The code that fetches a row, run by hand: a walk, rests, a note, what an instrument holds before one, a play that is
+-- repeated, and a row that isn't due.
 use Rattle.std.specs.Prelude.{◌≡◌, ℕ, ◌+◌, ◌&&◌, ◌||◌, Bool, true, false, not}
 use Rattle.std.specs.Prelude.{nat_eq, if◌then◌else◌, []}
 use Rattle.std.specs.Prelude.{◌∷◌}
@@ -7,11 +8,12 @@ use Rattle.song_model.specs.declared.orders.Order.{Order}
 use Rattle.scopes.specs.Desk.{Layout}
 use Rattle.scopes.specs.Meaning.{Outcome, Done, Left, Ran, each_one, ran}
 use Rattle.player_memory.specs.declared.conditions.TheConstants.{SKIP_PULSE, SKIP_FIRST, LEGATO, NO_HARD_RESTART}
-use Rattle.player_memory.specs.declared.conditions.TheConstants.{OWN_TIMER, HELD_NOTE}
+use Rattle.player_memory.specs.declared.conditions.TheConstants.{OWN_TIMER, HELD_NOTE, FIRST_HOLDS}
 use Rattle.player_memory.specs.declared.labels.TheConstants.{TICK, GATE_TIMER, NEW_NOTE, REST, OFFSET, PATTERN_LOW}
 use Rattle.player_memory.specs.declared.labels.TheConstants.{PATTERN_HIGH, ORDER_LOW, ORDER_HIGH, ORDER_PLACE}
 use Rattle.player_memory.specs.declared.labels.TheConstants.{TRANSPOSE, REPEAT, GATE_TIMERS, PATTERNS_LOW}
 use Rattle.player_memory.specs.declared.labels.TheConstants.{PATTERNS_HIGH, ORDERS, PATTERNS, ONE_TIMER}
+use Rattle.player_memory.specs.declared.labels.TheConstants.{GATE, AD, SR, GATE_FROM, ENVELOPE_FROM}
 use Rattle.player_memory.specs.WorkedMemory.{at_1000}
 use Rattle.player_memory.specs.WorkedPlays.{with_variable, its_memory, its_desk}
 use Rattle.player_text.specs.declared.joints.TheConstants.{SOUNDS}
@@ -32,15 +34,31 @@ laid options = record at_1000 {
   holds = λ condition. options || not (nat_eq condition SKIP_PULSE || nat_eq condition SKIP_FIRST);
 }
 
--- the same without the code that keeps a timer for each voice, and without that which looks at an instrument's before a
--- note: nothing reads the instruments' timers, and one of all instruments stands at $1128
+-- the same without the code that keeps a timer for each voice, and without that which finds before a note what an
+-- instrument holds: nothing reads the instruments' timers, and one of all instruments stands at $1128
 abbrev pub one_timed : Layout
 one_timed = record (laid false) {
   address = λ label. if nat_eq label ONE_TIMER then 0x1128 else (laid false).address label;
   holds = λ condition. (laid false).holds condition
       && not (nat_eq condition OWN_TIMER || nat_eq condition HELD_NOTE || nat_eq condition LEGATO
-      || nat_eq condition NO_HARD_RESTART);
+      || nat_eq condition NO_HARD_RESTART || nat_eq condition FIRST_HOLDS);
 }
+
+-- without the code for a first instrument that holds more than another: the number from which on instruments hold the
+-- gate stands at $1129, and the one for the envelope at $112A
+abbrev pub in_order : Layout
+in_order = record (laid false) {
+  address = λ label.
+      if nat_eq label GATE_FROM then 0x1129
+      else if nat_eq label ENVELOPE_FROM then 0x112A
+      else (laid false).address label;
+  holds = λ condition. (laid false).holds condition && not (nat_eq condition FIRST_HOLDS);
+}
+
+-- and without this
+abbrev pub in_order_but : ℕ → Layout
+in_order_but other =
+    record in_order { holds = λ condition. in_order.holds condition && not (nat_eq condition other) }
 
 -- two half tones up, pattern 0 is played twice, again and again
 abbrev pub its_order : Order
@@ -80,6 +98,15 @@ at_end tick = with_own OFFSET 0 (at_first tick)
 -- with this timer for all instruments, and another one in the voice's own byte and among the instruments' timers
 abbrev pub with_one_timer : ℕ → (ℕ → ℕ) → ℕ → ℕ
 with_one_timer timer at = put (put (with_own GATE_TIMER 7 at) 0x1121 7) 0x1128 timer
+
+-- the gate is on, and the envelope another than that of a hard restart
+abbrev pub with_gate : (ℕ → ℕ) → ℕ → ℕ
+with_gate at = with_own GATE 0xFF (with_own AD 0x29 (with_own SR 0x5A at))
+
+-- at the note, with this gateoff timer of instrument 1, which the voice has, and with these two numbers
+abbrev pub at_held : ℕ → ℕ → ℕ → ℕ → ℕ
+at_held timer gate envelope =
+    put (put (put (with_gate (at_note 2)) 0x1121 timer) 0x1129 gate) 0x112A envelope
 
 -- ---- runs
 
@@ -126,6 +153,22 @@ IsFetched run way rest offset place repeat note cost =
       cost = cost;
     }
 
+-- the gate and the envelope that a run before a note leaves, and in how many instructions
+pub record Shut : Type 0 where
+  pub gate : ℕ
+  pub ad : ℕ
+  pub sr : ℕ
+  pub cost : ℕ
+
+abbrev pub shut : Ran → Shut
+shut run = record { gate = left_at run GATE; ad = left_at run AD; sr = left_at run SR; cost = run.cost }
+
+abbrev pub IsShut : Ran → ℕ → ℕ → ℕ → ℕ → Type 0
+IsShut run gate ad sr cost = shut run ≡ record { gate = gate; ad = ad; sr = sr; cost = cost }
+
+abbrev pub IsShutIn : Layout → (ℕ → ℕ) → ℕ → ℕ → ℕ → ℕ → Type 0
+IsShutIn layout at = IsShut (fetched_in layout at)
+
 pub record FetchesAreWorked : Type 0 where
   -- a frame before the row is due, the orderlist is walked past a transpose and a repeat; a play that is left isn't
   -- walked to
@@ -143,6 +186,21 @@ pub record FetchesAreWorked : Type 0 where
   -- by one timer of all instruments the note is due, and is fetched without a look at its own; or it isn't due yet
   pub one_timer : IsFetched (fetched_in one_timed (with_one_timer 2 (at_note 2))) Done 0 0 3 1 0x62 37
   pub other_timer : IsFetched (fetched_in one_timed (with_one_timer 3 (at_note 2))) Done 0 2 3 1 0 7
+  -- Before a note of an instrument that holds nothing the gate goes off, and the envelope is that of a hard restart;
+  -- one that holds its envelope keeps that; and one that holds its gate keeps both. By its timer, whatever the numbers
+  -- are:
+  pub timer_none : IsShutIn (laid false) (at_held 0x3F 1 1) 0xFE 0x0F 0 42
+  pub timer_envelope : IsShutIn (laid false) (at_held 0x82 2 2) 0xFE 0x29 0x5A 38
+  pub timer_gate : IsShutIn (laid false) (at_held 0x42 2 2) 0xFF 0x29 0x5A 35
+  -- or by its number, which is 1, whatever the timer is: below both, below that for the gate alone, and from that on
+  pub number_none : IsShutIn in_order (at_held 0xC2 2 2) 0xFE 0x0F 0 42
+  pub number_envelope : IsShutIn in_order (at_held 0x02 2 1) 0xFE 0x29 0x5A 38
+  pub number_gate : IsShutIn in_order (at_held 0x02 1 1) 0xFF 0x29 0x5A 34
+  pub number_zero : IsShutIn in_order (at_held 0x02 2 0) 0xFE 0x29 0x5A 38
+  pub number_far : IsShutIn in_order (at_held 0xC2 64 64) 0xFE 0x0F 0 42
+  -- a number that no code is kept for isn't looked at
+  pub no_gate : IsShutIn (in_order_but LEGATO) (at_held 0xC2 1 2) 0xFE 0x0F 0 40
+  pub no_envelope : IsShutIn (in_order_but NO_HARD_RESTART) (at_held 0xC2 2 1) 0xFE 0x0F 0 40
   -- the options leave out the pulse step where a row is fetched, and at tick 0 between two patterns
   pub skips : IsFetched (fetched true (at_first 2)) (Left SOUNDS) 1 2 3 1 0 40
   pub between : IsFetched (fetched true (at_first 0)) (Left SOUNDS) 0 1 3 1 0 15

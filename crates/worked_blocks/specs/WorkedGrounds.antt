@@ -18,16 +18,19 @@ use Rattle.player_text.specs.declared.joints.TheConstants.{SOUNDS}
 use Rattle.fetch_code.specs.FetchBlock.{IsKept, HasOrderlist, HasRows, KeepsNext, left_out, Fetches}
 use Rattle.player_memory.specs.Fetching.{IsInSong}
 use Rattle.worked_blocks.specs.WorkedFetches.{laid, one_timed, its_order, at_start, at_first, in_run, at_note, with_own}
-use Rattle.worked_blocks.specs.WorkedFetches.{with_one_timer, fetched}
+use Rattle.worked_blocks.specs.WorkedFetches.{with_one_timer, in_order, at_held, fetched}
 
 -- ---- what the law asks
 
--- the pattern's rows, and a gateoff timer of 2
-abbrev pub looked_up : LookUps → LookUps
-looked_up look = record look {
-  instrument = λ number. record (look.instrument number) { gate_timer = 2 };
+-- the pattern's rows, and this gateoff timer; it is 2 where no other is said
+abbrev pub timed_up : ℕ → LookUps → LookUps
+timed_up timer look = record look {
+  instrument = λ number. record (look.instrument number) { gate_timer = timer };
   rows = λ number. its_rows;
 }
+
+abbrev pub looked_up : LookUps → LookUps
+looked_up = timed_up 2
 
 -- the voice at this row of its first play, which is due
 abbrev pub on_row : ℕ → Voice
@@ -58,6 +61,16 @@ own_timed = record one_timed {
 
 abbrev pub unread_timed : Layout
 unread_timed = record one_timed { may_read = λ place. (laid false).may_read place && not (nat_eq place 0x1128) }
+
+-- with such a timer, and these numbers from which on instruments hold the gate and the envelope, where the instruments
+-- stand in order
+abbrev pub HasHeldIn : Layout → ℕ → ℕ → ℕ → LookUps → Type 0
+HasHeldIn layout timer gate envelope look =
+    HasRows layout 4 (at_held timer gate envelope) (timed_up timer look) its_packed its_order (on_row 2)
+
+-- where the code may not read the first of the two
+abbrev pub unread_gate : Layout
+unread_gate = record in_order { may_read = λ place. (laid false).may_read place && not (nat_eq place 0x1129) }
 
 -- nothing is kept that stands under a condition
 abbrev pub bare : Layout
@@ -92,6 +105,10 @@ pub record GroundsAreWorked (look : LookUps) : Type 0 where
   pub orderlist : HasOrderIn (laid false) (at_note 2) its_order
   pub rows : HasRowsIn (at_note 2) (looked_up look) (on_row 2)
   pub one_timer : HasNoteIn one_timed (with_one_timer 2 (at_note 2)) look
+  -- an instrument that holds its gate, its envelope, or nothing is told by its number, 1
+  pub gate : HasHeldIn in_order 0x42 1 1 look
+  pub envelope : HasHeldIn in_order 0x82 2 1 look
+  pub neither : HasHeldIn in_order 0x3F 2 2 look
 
 -- ---- what it refuses
 
@@ -120,6 +137,14 @@ pub record OthersAreDenied (look : LookUps) : Type 0 where
   pub other_timer : ¬ HasNoteIn one_timed (with_one_timer 3 (at_note 2)) look
   pub own_timer : ¬ HasNoteIn own_timed (at_note 2) look
   pub unread_timer : ¬ HasNoteIn unread_timed (with_one_timer 2 (at_note 2)) look
+  -- where the instruments are in order, the numbers tell what it holds, and the code may read them; where they aren't,
+  -- its timer does
+  pub gate_behind : ¬ HasHeldIn in_order 0x42 2 1 look
+  pub gate_from : ¬ HasHeldIn in_order 0x82 1 1 look
+  pub envelope_behind : ¬ HasHeldIn in_order 0x82 2 2 look
+  pub envelope_from : ¬ HasHeldIn in_order 0x3F 2 1 look
+  pub unread_gate_from : ¬ HasHeldIn unread_gate 0x3F 2 2 look
+  pub by_timer : ¬ HasRows (laid false) 4 (at_held 0x42 2 2) (timed_up 0x82 look) its_packed its_order (on_row 2)
   -- a plain note of a plain instrument asks for nothing; keyoff, keyon, a slide to the note, and an instrument that
   -- leaves the gate or the envelope as it is ask for their lines
   pub plain : KeepsRowIn bare look 0x90 0 0x3F

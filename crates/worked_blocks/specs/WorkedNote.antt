@@ -21,7 +21,7 @@ use Rattle.player_memory.specs.declared.labels.TheConstants.{NEXT_FREQUENCY_HIGH
 use Rattle.player_memory.specs.declared.labels.TheConstants.{NEXT_PULSE_LEFTS, NEXT_FILTER_LEFTS, WAVE_LEFTS, VARIABLES}
 use Rattle.player_memory.specs.declared.labels.TheConstants.{FIRST_CLEARED}
 use Rattle.player_memory.specs.declared.conditions.TheConstants.{SUBTUNES}
-use Rattle.player_memory.specs.SongLists.{HasSongLists}
+use Rattle.player_memory.specs.SongLists.{HasSongLists, has_gate_from, has_envelope_from}
 use Rattle.player_memory.specs.Holds.{IsPlayerLayout, order_in}
 use Rattle.init_code.specs.InitBlock.{MaySetTimer}
 use Rattle.frame_code.specs.FrameBlock.{ReadsOffStack, counts_of, turn_in}
@@ -53,7 +53,7 @@ is_next label =
     || nat_eq label NEXT_WAVE_RIGHTS || nat_eq label NEXT_PULSE_LEFTS || nat_eq label NEXT_FILTER_LEFTS
 
 -- The variables stand from $1000 on, the slides at $1100 and $1180, and each list in a page of its own: from $2000 on
--- by its label, the orderlists from $4000 on, the patterns from $5000 on. All lines are kept, but those that take one of
+-- by its label, the orderlists from $4800 on, the patterns from $5000 on. All lines are kept, but those that take one of
 -- several subtunes only where that is said. The code may read all of it, and may write the variables, the slides, the
 -- registers and the timer.
 abbrev pub layout_with : Bool → Layout
@@ -64,7 +64,7 @@ layout_with several = record {
       else if nat_eq label SLIDES_HIGH then 0x1180
       else if is_next label then 0x2001 + 0x100 * (label - 129)
       else if nat_lt label 256 then 0x2000 + 0x100 * (label - 128)
-      else if nat_lt label 512 then 0x4000 + 0x100 * (label - 256)
+      else if nat_lt label 512 then 0x4800 + 0x100 * (label - 256)
       else 0x5000 + 0x100 * (label - 512);
   pointer = 0xFC;
   holds = λ condition. not (nat_eq condition SUBTUNES) || several;
@@ -102,24 +102,27 @@ page_bytes page =
     else if nat_eq page 0x38 then 0 ∷ 2 ∷ []
     else if nat_eq page 0x39 then 0 ∷ 9 ∷ []
     -- the addresses of the orderlists, and the places before the patterns
-    else if nat_eq page 0x3B then 0x40 ∷ 0x41 ∷ 0x42 ∷ []
+    else if nat_eq page 0x3B then 0x48 ∷ 0x49 ∷ 0x4A ∷ []
     else if nat_eq page 0x3C then 0xFF ∷ 0xFF ∷ []
     else if nat_eq page 0x3D then 0x4F ∷ 0x50 ∷ []
     -- for all instruments, where no two differ in them: their gateoff timer, their first waveform
     else if nat_eq page 0x3E then 2 ∷ []
     else if nat_eq page 0x3F then 9 ∷ []
+    -- the numbers from which on instruments hold the gate, and the envelope: one more than the last one has
+    else if nat_eq page 0x42 then 2 ∷ []
+    else if nat_eq page 0x43 then 2 ∷ []
     -- the orderlists, and the patterns
-    else if nat_eq page 0x40 then 0 ∷ 0xFF ∷ 0 ∷ []
-    else if nat_eq page 0x41 then 1 ∷ 0xFF ∷ 0 ∷ []
-    else if nat_eq page 0x42 then 1 ∷ 0xFF ∷ 0 ∷ []
+    else if nat_eq page 0x48 then 0 ∷ 0xFF ∷ 0 ∷ []
+    else if nat_eq page 0x49 then 1 ∷ 0xFF ∷ 0 ∷ []
+    else if nat_eq page 0x4A then 1 ∷ 0xFF ∷ 0 ∷ []
     else if nat_eq page 0x50 then 0x01 ∷ 0x90 ∷ 0xBE ∷ 0x00 ∷ []
     else if nat_eq page 0x51 then 0xC0 ∷ 0x00 ∷ []
     else []
 
--- in the voices' variables $4000, $4100 and $4200, where their orderlists are
+-- in the voices' variables $4800, $4900 and $4A00, where their orderlists are
 abbrev pub first_orders : ℕ → ℕ
 first_orders place =
-    if nat_eq place 0x1005 then 0x40 else if nat_eq place 0x100C then 0x41 else if nat_eq place 0x1013 then 0x42 else 0
+    if nat_eq place 0x1005 then 0x48 else if nat_eq place 0x100C then 0x49 else if nat_eq place 0x1013 then 0x4A else 0
 
 -- these, the notes' frequencies, those lists, and 0 at each other place
 abbrev pub note_memory : ℕ → ℕ
@@ -149,7 +152,9 @@ pub record NoteIsLaid (packed : PackedSong) : Type 0 where
   pub last_frequency : ¬ HasSongLists note_layout packed (put note_memory 0x2230 1)
   pub one_timer : packed.facts.own_timer ≡ false → ¬ HasSongLists note_layout packed (put note_memory 0x3E00 3)
   pub one_wave : packed.facts.own_wave ≡ false → ¬ HasSongLists note_layout packed (put note_memory 0x3F00 0x11)
-  pub order : ¬ HasSongLists note_layout packed (put note_memory 0x4002 1)
+  pub gate_from : has_gate_from packed ≡ true → ¬ HasSongLists note_layout packed (put note_memory 0x4200 1)
+  pub envelope_from : has_envelope_from packed ≡ true → ¬ HasSongLists note_layout packed (put note_memory 0x4300 1)
+  pub order : ¬ HasSongLists note_layout packed (put note_memory 0x4802 1)
   pub pattern : ¬ HasSongLists note_layout packed (put note_memory 0x5101 1)
   pub slide : ¬ HasSongLists note_layout packed (put note_memory 0x1100 1)
 
@@ -174,7 +179,7 @@ pub record NoteHasOrders : Type 0 where
   pub has : HaveOrders (layout_with false) 0 note_memory
   pub none : ¬ HaveOrders (layout_with false) 0 (λ place. 0)
   pub low : ¬ HaveOrders (layout_with false) 0 (put note_memory 0x1012 1)
-  pub high : ¬ HaveOrders (layout_with false) 0 (put note_memory 0x100C 0x42)
+  pub high : ¬ HaveOrders (layout_with false) 0 (put note_memory 0x100C 0x4A)
   pub several : HaveOrders note_layout 0 (λ place. 0)
 
 -- It has one instrument, two rows in two of its tables, and one number. The first voice of its first frame comes to its

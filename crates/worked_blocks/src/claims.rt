@@ -7,9 +7,10 @@ ghost use Rattle.worked_blocks.specs.WorkedGrounds.{GroundsAreWorked, LeavingIsW
 ghost use Rattle.worked_blocks.specs.WorkedFrames.{EntrancesAreExact};
 ghost use Rattle.worked_blocks.specs.WorkedNote.{NotesAreWorked};
 
-/// The code run by hand: the orderlist walked past a transpose and a repeat, a play that is repeated, rests, a note, a
-/// row that isn't due, and the pulse step left out. What the law on it asks is met there; it refuses other memories,
-/// and what the code doesn't leave. Orderlists and patterns that just stand in memory, and such as just don't.
+/// The code run by hand: the orderlist walked past a transpose and a repeat, a play that is repeated, rests, a note,
+/// what instruments hold before one, by their gateoff timers and by their numbers, a row that isn't due, and the pulse
+/// step left out. What the law on it asks is met there; it refuses other memories, and what the code doesn't leave.
+/// Orderlists and patterns that just stand in memory, and such as just don't.
 pub fn worked_fetches()
     ensures runs { FetchesAreWorked }
     ensures grounds { (look : LookUps) → GroundsAreWorked look }
