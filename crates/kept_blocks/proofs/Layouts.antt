@@ -1,9 +1,9 @@
 -- A layout with the set of a song and of options keeps their lines.
-use Rattle.std.proofs.Common.{◌≡◌, ℕ, ◌<◌, Bool, true, false, ◌||◌, nat_lt, inl, inr, refl, sym, ap, ◌∙◌, arith}
+use Rattle.std.proofs.Common.{◌≡◌, ℕ, ◌<◌, Bool, true, false, ◌||◌, nat_lt, refl, sym, ap, ◌∙◌, arith}
 use Rattle.std.proofs.Common.{IsBitSet}
 use Rattle.std.specs.Int.{bit_at}
 use Rattle.std.proofs.Math.Bool.{or_assoc}
-use Rattle.std.proofs.lemmas.Bool.{eq-eqb, lt-ltb, or_cases}
+use Rattle.std.proofs.lemmas.Bool.{eq-eqb, lt-ltb}
 use Rattle.std.proofs.lemmas.Nat.{bit_set_by_shift}
 use Rattle.std.proofs.lemmas.Nat.Bits.{shr_and_one}
 use Rattle.song_model.specs.declared.features.Feature.{Feature}
@@ -21,19 +21,20 @@ use Rattle.song_facts.specs.declared.facts.Fact.TheVariants.{WaveDelay, GateNote
 use Rattle.song_facts.specs.declared.facts.Fact.TheVariants.{NoteFilter}
 use Rattle.song_facts.specs.declared.facts.Fact.TheVariants.{VoiceTempo, CommonTempo, FunkTurns, FunkChoice}
 use Rattle.song_facts.specs.declared.facts.Fact.TheVariants.{OwnTimer, OwnWave, Subtunes, VoiceTwo, VoiceThree}
+use Rattle.song_facts.specs.declared.facts.Fact.TheVariants.{FirstHolds}
 use Rattle.song_facts.specs.declared.facts.Facts.{Facts}
 use Rattle.song_facts.specs.Facts.{is_among}
 use Rattle.play_model.specs.declared.options.Options.{Options}
 use Rattle.scopes.specs.Desk.{Layout}
 use Rattle.slide_code.specs.SlideBlock.{KeepsCommon}
-use Rattle.player_memory.specs.FactLines.{fact_condition, KeepsShared, HoldsAlone}
+use Rattle.player_memory.specs.FactLines.{fact_condition, KeepsShared}
 use Rattle.player_memory.specs.declared.conditions.TheConstants.{ROW_TONE, ROW_SLIDE, ROW_ONCE, FIRST_MASK, LEGATO}
 use Rattle.player_memory.specs.declared.conditions.TheConstants.{NO_HARD_RESTART, WAVE_DELAY, GATE_NOTE, ROW_COMMAND}
 use Rattle.player_memory.specs.declared.conditions.TheConstants.{NOTE_VIBRATO, VIBRATO_DELAY, NOTE_PULSE, NOTE_FILTER}
 use Rattle.player_memory.specs.declared.conditions.TheConstants.{VOICE_TEMPO, COMMON_TEMPO, FUNK_TURNS, FUNK_CHOICE}
 use Rattle.player_memory.specs.declared.conditions.TheConstants.{OWN_TIMER, OWN_WAVE, SUBTUNES, VOICE_TWO, VOICE_THREE}
 use Rattle.player_memory.specs.declared.conditions.TheConstants.{SPECIAL_ROW, HELD_NOTE, WAVE_COMMAND, EFFECTS}
-use Rattle.player_memory.specs.declared.conditions.TheConstants.{FILTER_USED}
+use Rattle.player_memory.specs.declared.conditions.TheConstants.{FILTER_USED, FIRST_HOLDS}
 use Rattle.player_memory.specs.declared.conditions.TheConstants.{FILTER_TABLE, SET_FILTER_CONTROL, SET_CUTOFF}
 use Rattle.kept_lines.specs.Asked.{is_in, asked}
 use Rattle.kept_lines.specs.KeptLines.{keeps}
@@ -102,6 +103,7 @@ had features facts options OwnWave = asked_is_exact features facts OWN_WAVE
 had features facts options Subtunes = asked_is_exact features facts SUBTUNES
 had features facts options VoiceTwo = asked_is_exact features facts VOICE_TWO
 had features facts options VoiceThree = asked_is_exact features facts VOICE_THREE
+had features facts options FirstHolds = asked_is_exact features facts FIRST_HOLDS
 
 -- either of two
 or_first : (z y : Bool) → z ≡ true → (z || y) ≡ true
@@ -143,15 +145,6 @@ shared_of set options layout is = record {
       ∙ or_second (is_in set FILTER_TABLE || is_in set SET_FILTER_CONTROL) (is_in set SET_CUTOFF)
       (sym (is SET_CUTOFF) ∙ on);
 }
-
--- what is held before a note is for one of two
-held_of : (set : ℕ) (options : Options) (layout : Layout) →
-    ((condition : ℕ) → layout.holds condition ≡ keeps set options condition) → HoldsAlone layout
-held_of set options layout is on =
-    elim (or_cases (is_in set LEGATO) (is_in set NO_HARD_RESTART) (sym (is HELD_NOTE) ∙ on)) [
-      | inl gate ↦ inl (is LEGATO ∙ gate)
-      | inr envelope ↦ inr (is NO_HARD_RESTART ∙ envelope)
-    ]
 
 common_of : (set : ℕ) (options : Options) (layout : Layout) →
     ((condition : ℕ) → layout.holds condition ≡ keeps set options condition) → KeepsCommon layout
@@ -197,7 +190,6 @@ sets_keep_their_lines layout features facts options holds = record {
   options_are = record { effects = is 24; pulse = is 25; first = is 27 };
   common = common_of (asked features facts) options layout is;
   shared = shared_of (asked features facts) options layout is;
-  held = held_of (asked features facts) options layout is;
   timer = is 26;
 }
   where

@@ -1,9 +1,9 @@
 -- Which layouts keep a song's lines.
-use Rattle.std.proofs.Common.{◌^◌, inl, inr, refl, sym, ◌∙◌, arith}
+use Rattle.std.proofs.Common.{◌^◌, refl, sym, ◌∙◌, arith}
 use Rattle.std.proofs.lemmas.Bool.{true≢false}
 use Rattle.song_model.specs.declared.features.Feature.TheVariants.{Transpose, PortaUp, TonePorta, Cutoff}
 use Rattle.song_model.specs.declared.features.Feature.TheVariants.{WaveCommand}
-use Rattle.song_facts.specs.declared.facts.Fact.TheVariants.{RowOnce, GateNote, Legato, NoHardRestart}
+use Rattle.song_facts.specs.declared.facts.Fact.TheVariants.{RowOnce, GateNote, Legato, FirstHolds}
 use Rattle.song_facts.specs.Facts.{no_facts}
 use Rattle.play_model.specs.declared.options.Options.{Options}
 use Rattle.play_model.specs.State.{no_options, at_speed}
@@ -31,11 +31,9 @@ layouts_are_worked layout options = record {
   other_fact = λ on keeps. absurd (let none = keeps.facts_alone GateNote on in true≢false (sym none));
   common = λ out keeps. true≢false (sym (keeps.common.rise (rw (keeps.features_are PortaUp (omega arith)) refl)) ∙ out);
   shared = λ out keeps. true≢false (sym (keeps.shared.once (keeps.facts_are RowOnce refl)) ∙ out);
-  held = λ on keeps.
-      elim (keeps.held on) [
-        | inl gate ↦ absurd (let none = keeps.facts_alone Legato gate in true≢false (sym none))
-        | inr envelope ↦ absurd (let none = keeps.facts_alone NoHardRestart envelope in true≢false (sym none))
-      ];
+  held = λ out keeps. true≢false (sym (keeps.shared.legato (keeps.facts_are Legato refl)) ∙ out);
+  first_holds = λ out keeps. true≢false (sym (keeps.facts_are FirstHolds refl) ∙ out);
+  none_holds = λ on keeps. absurd (let none = keeps.facts_alone FirstHolds on in true≢false (sym none));
   special = λ out keeps. true≢false (sym (keeps.shared.command (keeps.features_are WaveCommand (omega arith))) ∙ out);
   runs = λ out keeps.
       true≢false (sym (lent_keep layout keeps.common (keeps.features_are WaveCommand (omega arith))) ∙ out);

@@ -8,7 +8,7 @@ use Rattle.play_model.specs.declared.options.Options.{Options}
 use Rattle.scopes.specs.Desk.{Layout}
 use Rattle.scope_lines.specs.Readings.{holds_in}
 use Rattle.player_memory.specs.declared.conditions.TheConstants.{TIMED}
-use Rattle.player_memory.specs.FactLines.{KeepsMarked, KeepsMarkedAlone, KeepsShared, HoldsAlone}
+use Rattle.player_memory.specs.FactLines.{KeepsMarked, KeepsMarkedAlone, KeepsShared}
 use Rattle.slide_code.specs.SlideBlock.{KeepsCommon}
 use Rattle.voice_code.specs.VoiceBlock.{KeepsOptions}
 use Rattle.kept_lines.specs.Asked.{asked}
@@ -20,8 +20,7 @@ KeepsFeatures layout features =
     (feature : Feature) → IsBitSet features (bit_of feature) → layout.holds (bit_of feature) ≡ true
 
 -- and those of its facts, and of no others; those of the options that are on, and of no others; those of what features
--- or facts have in common, where those of instruments that leave something as it is before a note are kept only for one
--- that does; and those that set the timer where there are several play calls in a picture
+-- or facts have in common; and those that set the timer where there are several play calls in a picture
 pub record KeepsLines (layout : Layout) (features : ℕ) (facts : Facts) (options : Options) : Type 0 where
   pub features_are : KeepsFeatures layout features
   pub facts_are : KeepsMarked layout facts
@@ -29,7 +28,6 @@ pub record KeepsLines (layout : Layout) (features : ℕ) (facts : Facts) (option
   pub options_are : KeepsOptions layout options
   pub common : KeepsCommon layout
   pub shared : KeepsShared layout
-  pub held : HoldsAlone layout
   pub timer : layout.holds TIMED ≡ nat_lt 1 options.speed
 
 -- so does a layout in which the conditions of the set hold

@@ -7,7 +7,8 @@ use Rattle.scope_lines.specs.Readings.{holds_in}
 use Rattle.player_memory.specs.declared.conditions.TheConstants.{TRANSPOSES, PORTA_UP, TONE_PORTA, VIBRATO}
 use Rattle.player_memory.specs.declared.conditions.TheConstants.{SKIP_EFFECTS, SKIP_PULSE, TIMED, SKIP_FIRST, RISE}
 use Rattle.player_memory.specs.declared.conditions.TheConstants.{WAVE_COMMAND, GATE_NOTE, ROW_COMMAND, SPECIAL_ROW}
-use Rattle.player_memory.specs.declared.conditions.TheConstants.{EFFECTS, FILTER_USED, SET_CUTOFF, HELD_NOTE}
+use Rattle.player_memory.specs.declared.conditions.TheConstants.{EFFECTS, FILTER_USED, SET_CUTOFF}
+use Rattle.player_memory.specs.declared.conditions.TheConstants.{HELD_NOTE, FIRST_HOLDS}
 use Rattle.song_facts.specs.declared.facts.Facts.{Facts}
 use Rattle.song_facts.specs.Facts.{no_facts}
 use Rattle.kept_lines.specs.Asked.{asked}
@@ -35,7 +36,11 @@ pub record LayoutsAreWorked (layout : Layout) (options : Options) : Type 0 where
   pub common : layout.holds RISE ≡ false → ¬ KeepsLines layout (2 ^ PORTA_UP) no_facts options
   pub shared : layout.holds ROW_COMMAND ≡ false →
       ¬ KeepsLines layout 0 (record no_facts { row_once = true }) options
-  pub held : layout.holds HELD_NOTE ≡ true → ¬ KeepsLines layout 0 no_facts options
+  pub held : layout.holds HELD_NOTE ≡ false → ¬ KeepsLines layout 0 (record no_facts { legato = true }) options
+  pub first_holds : layout.holds FIRST_HOLDS ≡ false →
+      ¬ KeepsLines layout 0 (record no_facts { legato = true; first_holds = true }) options
+  pub none_holds : layout.holds FIRST_HOLDS ≡ true →
+      ¬ KeepsLines layout 0 (record no_facts { legato = true }) options
   pub special : layout.holds SPECIAL_ROW ≡ false → ¬ KeepsLines layout (2 ^ WAVE_COMMAND) no_facts options
   pub runs : layout.holds EFFECTS ≡ false → ¬ KeepsLines layout (2 ^ WAVE_COMMAND) no_facts options
   pub filter : layout.holds FILTER_USED ≡ false → ¬ KeepsLines layout (2 ^ SET_CUTOFF) no_facts options

@@ -8,7 +8,7 @@ use std::marker::Model;
 #[derive(Clone, Copy, Debug, PartialEq, Eq)]
 pub struct PartSpan {
     /// The part: 0 to 23 for a feature, 24 to 27 for an option, 28 to 33 for what several features have in common,
-    /// 34 to 54 for a fact, 55 to 59 for what several facts or features have in common, 255 for what every image has.
+    /// 34 to 55 for a fact, 56 to 60 for what several facts or features have in common, 255 for what every image has.
     pub part: u8,
     /// The first of the bytes, counted from the image's first.
     pub start: u16,

@@ -166,7 +166,7 @@ module _ {packed : PackedSong} {song : Song} {o : Options} {bytes : List ℕ} (p
       frames_play (wide_layout plan which) packed o k (packed_state packed k o i) (its_play plan) (wide_desk which)
       (play_is plan) (p.laid which) (wide_off_stack plan p which) stands
       (packed_frames_are_ready (wide_layout plan which) packed song o k i (spared which).memory p.stands p.short
-      (p.laid which) stands.lists p.features p.facts p.alone (p.shared which) (p.held which) (p.options which)
+      (p.laid which) stands.lists p.features p.facts p.alone (p.shared which) (p.options which)
       (p.common which) below p.speed)
 
   narrow : Narrowed plan (its_play plan) (play_desk plan machine number) wide_desk

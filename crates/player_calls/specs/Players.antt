@@ -11,7 +11,7 @@ use Rattle.asm6502.specs.Assembly.{assembled_bytes}
 use Rattle.asm6502.specs.Stretches.{HasBytes}
 use Rattle.player_memory.specs.declared.conditions.TheConstants.{NOTE_DEPENDENT, TIMED}
 use Rattle.player_memory.specs.declared.labels.TheConstants.{VARIABLES, FIRST_CLEARED, SLIDES_LOW, SLIDES_HIGH}
-use Rattle.player_memory.specs.FactLines.{KeepsMarked, KeepsMarkedAlone, KeepsShared, HoldsAlone}
+use Rattle.player_memory.specs.FactLines.{KeepsMarked, KeepsMarkedAlone, KeepsShared}
 use Rattle.player_memory.specs.Playing.{place_in}
 use Rattle.player_memory.specs.SongLists.{SongList, IsSongList, HasNumber, HasSongLists, list_label, slide_rows}
 use Rattle.player_memory.specs.Holds.{IsPlayerLayout, order_label}
@@ -58,11 +58,10 @@ HasImage plan at = HasBytes at plan.origin 0 (plan_size plan) (assembled_bytes 0
 
 -- The bytes are the plan's listing, which stands from $0800 up to $D000. The packed song stands for a song, and has at
 -- most 85 subtunes. The lines are kept of its features and facts and of no other facts, of what they have in common,
--- and of the options; those of instruments that leave something as it is before a note, only for one that does. The
--- variables that aren't cleared have the first bytes, and the others stand behind them. The blocks may read the
--- variables and the lists, and write where they must. The song's lists are among the lists of the listing. In each
--- memory with its bytes they stand, and the variables begin as the first subtune does, those without a byte in the
--- image by their spare zeros.
+-- and of the options. The variables that aren't cleared have the first bytes, and the others stand behind them. The
+-- blocks may read the variables and the lists, and write where they must. The song's lists are among the lists of the
+-- listing. In each memory with its bytes they stand, and the variables begin as the first subtune does, those without
+-- a byte in the image by their spare zeros.
 pub record IsPlayer (plan : Plan) (packed : PackedSong) (song : Song) (o : Options) (bytes : List ℕ) : Type 0 where
   pub is : IsPlan plan
   pub are : bytes ≡ assembled_bytes 0 plan.origin (plan_lines plan)
@@ -78,7 +77,6 @@ pub record IsPlayer (plan : Plan) (packed : PackedSong) (song : Song) (o : Optio
   pub facts : KeepsMarked (plan_layout plan) packed.facts
   pub alone : KeepsMarkedAlone (plan_layout plan) packed.facts
   pub shared : (which : Bool) → KeepsShared (wide_layout plan which)
-  pub held : (which : Bool) → HoldsAlone (wide_layout plan which)
   pub common : (which : Bool) → KeepsCommon (wide_layout plan which)
   pub options : (which : Bool) → KeepsOptions (wide_layout plan which) o
   pub timed : plan.holds TIMED ≡ nat_lt 1 o.speed

@@ -400,6 +400,8 @@ module _ (packed : PackedSong) (o : Options) (origin pointer : ℕ) (variables :
         lists = laid.lists;
         timer = laid.timer;
         wave = laid.wave;
+        gates = laid.gates;
+        envelopes = laid.envelopes;
         orders = laid.orders;
         patterns = laid.patterns;
       }

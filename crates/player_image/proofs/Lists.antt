@@ -11,6 +11,7 @@ use Rattle.asm6502.specs.declared.lines.Line.{Line}
 use Rattle.asm6502.specs.Lines.{label_named}
 use Rattle.packed_form.specs.declared.packed_songs.PackedSong.{PackedSong}
 use Rattle.player_memory.specs.declared.labels.TheConstants.{FREQUENCY_LOWS, ONE_WAVE, SLIDES_LOW, SLIDES_HIGH}
+use Rattle.player_memory.specs.declared.labels.TheConstants.{GATE_FROM, ENVELOPE_FROM}
 use Rattle.player_memory.specs.declared.labels.TheConstants.{FILTER_LEFTS, NEXT_FILTER_LEFTS, FILTER_RIGHTS}
 use Rattle.player_memory.specs.declared.labels.TheConstants.{ORDERS_LOW, ORDERS_HIGH}
 use Rattle.player_text.specs.Facts.{is_list, is_filter_list, is_order_list}
@@ -46,12 +47,14 @@ low_label : (label other : ℕ) → FREQUENCY_LOWS ≤ other → other ≤ ONE_W
     IsListLabel label
 low_label label other from to e = (let is = eqb-true label other e in inl (omega (arith, is, from), omega (arith, is, to)))
 
-high_label : (label other : ℕ) → SLIDES_LOW ≤ other → other ≤ SLIDES_HIGH → (label == other) ≡ true →
+high_label : (label other : ℕ) → SLIDES_LOW ≤ other → other ≤ ENVELOPE_FROM → (label == other) ≡ true →
     IsListLabel label
 high_label label other from to e = (let is = eqb-true label other e in inr (omega (arith, is, from), omega (arith, is, to)))
 
-list_is : (label : ℕ) → is_list label ≡ true → IsListLabel label
-list_is label e =
+slides_are : (label : ℕ) →
+    (nat_le FREQUENCY_LOWS label && nat_le label ONE_WAVE || label == SLIDES_LOW || label == SLIDES_HIGH) ≡ true →
+    IsListLabel label
+slides_are label e =
     elim (or_cases (nat_le FREQUENCY_LOWS label && nat_le label ONE_WAVE || label == SLIDES_LOW)
     (label == SLIDES_HIGH) e) [
       | inl low ↦
@@ -62,6 +65,19 @@ list_is label e =
             | inr slides ↦ high_label label SLIDES_LOW (omega arith) (omega arith) slides
           ]
       | inr slides ↦ high_label label SLIDES_HIGH (omega arith) (omega arith) slides
+    ]
+
+list_is : (label : ℕ) → is_list label ≡ true → IsListLabel label
+list_is label e =
+    elim (or_cases (nat_le FREQUENCY_LOWS label && nat_le label ONE_WAVE || label == SLIDES_LOW || label == SLIDES_HIGH
+    || label == GATE_FROM) (label == ENVELOPE_FROM) e) [
+      | inl others ↦
+          elim (or_cases (nat_le FREQUENCY_LOWS label && nat_le label ONE_WAVE || label == SLIDES_LOW
+          || label == SLIDES_HIGH) (label == GATE_FROM) others) [
+            | inl slides ↦ slides_are label slides
+            | inr gates ↦ high_label label GATE_FROM (omega arith) (omega arith) gates
+          ]
+      | inr envelopes ↦ high_label label ENVELOPE_FROM (omega arith) (omega arith) envelopes
     ]
 
 filter_is : (label : ℕ) → is_filter_list label ≡ true → IsListLabel label

@@ -157,7 +157,6 @@ module _ (packed : PackedSong) (song : Song) (o : Options) (origin pointer : ℕ
         facts = kept.facts_are;
         alone = kept.facts_alone;
         shared = λ which. (wide which).shared;
-        held = λ which. (wide which).held;
         common = λ which. (wide which).common;
         options = λ which. (wide which).options_are;
         timed = kept.timer;
