@@ -42,7 +42,7 @@ module _ (song : Song) (asked : ℕ) (o : Options) (n : ℕ) (costs : List PartC
 
 -- ---- names
 
-pub names_short : (part : ℕ) → part < 60 → length (part_name part) ≤ 24
+pub names_short : (part : ℕ) → part < 61 → length (part_name part) ≤ 24
 names_short part below =
     leb-true (length (part_name part)) 24
-    (agree_below_at (λ n. nat_le (length (part_name n)) 24) (λ n. true) 60 part refl below)
+    (agree_below_at (λ n. nat_le (length (part_name n)) 24) (λ n. true) 61 part refl below)

@@ -119,7 +119,7 @@ pub record CostLinesAreWorked : Type 0 where
   pub by_skip : part_line (costly 25 6 SkipOption) ≡ codes "skip pulse 6 bytes, SKIP\n"
   pub by_first : part_line (costly 27 36 SkipOption) ≡ codes "skip between patterns 36 bytes, SKIP\n"
   pub by_speed : part_line (costly 26 10 SpeedOption) ≡ codes "play by timer 10 bytes, SPEED\n"
-  pub names : map part_name (range_with_len 0 60)
+  pub names : map part_name (range_with_len 0 61)
       ≡ codes "transpose"
       ∷ codes "repeat"
       ∷ codes "portamento up"
@@ -175,6 +175,7 @@ pub record CostLinesAreWorked : Type 0 where
       ∷ codes "several subtunes"
       ∷ codes "second voice"
       ∷ codes "third voice"
+      ∷ codes "first holds more"
       ∷ codes "row commands"
       ∷ codes "special wave rows"
       ∷ codes "held gate or envelope"

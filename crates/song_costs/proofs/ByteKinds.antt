@@ -6,18 +6,17 @@ use Rattle.std.proofs.lemmas.List.{length-map, length-append}
 use Rattle.std.proofs.lemmas.List.Sums.{sum_by-cons, length-filter}
 use Rattle.song_model.specs.declared.orders.Order.{Order}
 use Rattle.song_model.specs.declared.orders.Subtune.{Subtune}
-use Rattle.song_model.specs.declared.instruments.TheConstants.{MOST_INSTRUMENTS}
 use Rattle.song_model.specs.declared.tables.TableRow.{TableRow}
 use Rattle.song_model.specs.declared.songs.Song.{Song}
-use Rattle.song_model.specs.LookUp.{instrument_at, playable_subtunes}
+use Rattle.song_model.specs.LookUp.{playable_subtunes}
 use Rattle.play_model.specs.declared.options.Options.{Options}
 use Rattle.packed_form.specs.declared.packed_songs.PackedSong.{PackedSong}
 use Rattle.packed_form.specs.Sizes.{list_size, subtune_size, packed_song_size}
 use Rattle.player_memory.specs.SongLists.{shared_size, unread_size, unlisted_size}
 use Rattle.packing_rules.specs.Segments.{ProgramTable, numbers, row_of, keeps}
 use Rattle.packing_rules.specs.ProgramMaps.{retargeted}
-use Rattle.packing_rules.specs.UsedSets.{UsedSets}
-use Rattle.packing_rules.specs.Renumbering.{program_rows, program_number, table_number, pattern_number, wave_programs}
+use Rattle.packing_rules.specs.UsedSets.{UsedSets, AreUsedSets}
+use Rattle.packing_rules.specs.Renumbering.{program_rows, program_number, pattern_number, wave_programs}
 use Rattle.packing_rules.specs.Renumbering.{pulse_programs, filter_programs}
 use Rattle.packing_rules.specs.SongSizes.{order_size, orders_size, rows_size}
 use Rattle.kept_lines.specs.Asked.{asked_by}
@@ -26,8 +25,8 @@ use Rattle.image_parts.specs.Lengths.{slide_bytes, shared_bytes, unread_bytes, u
 use Rattle.image_parts.proofs.Laws.{shared_is, unread_is, unlisted_is, read_is}
 use Rattle.player_memory.proofs.Laws.{unread_few, unlisted_few}
 use Rattle.player_memory.proofs.Laws as player_memory
-use Rattle.song_pack.specs.Packed.{order_byte, order_bytes, packed_subtune, passing_numbers, packed_instrument, IsPacked}
-use Rattle.song_pack.proofs.Laws.{size_is}
+use Rattle.song_pack.specs.Packed.{order_byte, order_bytes, packed_subtune, IsPacked}
+use Rattle.song_pack.proofs.Laws.{instruments_are_counted, size_is}
 use Rattle.song_costs.specs.declared.costs.Costs.{Costs}
 use Rattle.song_costs.specs.Kinds.{speed_bytes, instrument_count, subtune_count, costs_of}
 
@@ -59,15 +58,9 @@ rows_are table rows are =
     let count = length-filter (keeps table) (numbers (length table.rows)) in
     omega arith
 
-pub instruments_are : (song : Song) (used : UsedSets) (packed : PackedSong) → IsPacked song used packed →
-    length packed.instruments ≡ instrument_count used
-unfolding passing_numbers
-instruments_are song used packed is =
-    let all = ap length is.instruments in
-    let kept = filter used.instruments (numbers MOST_INSTRUMENTS) in
-    let made = length-map kept (λ n. packed_instrument (table_number song used) (instrument_at song n)) in
-    let count = length-filter used.instruments (numbers MOST_INSTRUMENTS) in
-    omega arith
+pub instruments_are : (song : Song) (used : UsedSets) (packed : PackedSong) → AreUsedSets song used →
+    IsPacked song used packed → length packed.instruments ≡ instrument_count used
+instruments_are song used packed are is = instruments_are_counted song used packed are is
 
 pub subtunes_are : (song : Song) (used : UsedSets) (packed : PackedSong) → IsPacked song used packed →
     length packed.subtunes ≡ subtune_count song
@@ -152,7 +145,8 @@ kinds_add_up packed slides frequencies a b c s u l d e f g h =
         instruments one two three four five six = omega (arith, one, two, three, four, five, six)
 
 -- numbers that were taken from the packed song
-pub costs_are : (song : Song) (used : UsedSets) (packed : PackedSong) (options : Options) → IsPacked song used packed →
+pub costs_are : (song : Song) (used : UsedSets) (packed : PackedSong) (options : Options) → AreUsedSets song used →
+    IsPacked song used packed →
     {player patterns count shared unread unlisted wave pulse filters speed slides size frequencies : ℕ} →
     player ≡ code_length (asked_by packed) options → patterns ≡ sum_by list_size packed.patterns →
     count ≡ length packed.instruments → shared ≡ shared_size packed → unread ≡ unread_size packed →
@@ -173,8 +167,8 @@ pub costs_are : (song : Song) (used : UsedSets) (packed : PackedSong) (options :
       frequencies = frequencies;
     })
     (costs_of song used (asked_by packed) packed.numbers options)
-costs_are song used packed options is {player} {patterns} {count} {shared} {unread} {unlisted} {wave} {pulse} {filters}
-    {speed} {slides} {size} {frequencies} a b c o u l d e f g s h n =
+costs_are song used packed options are is {player} {patterns} {count} {shared} {unread} {unlisted} {wave} {pulse}
+    {filters} {speed} {slides} {size} {frequencies} a b c o u l d e f g s h n =
     let orders : size - patterns - 9 * count - wave - pulse - filters - speed ≡ sum_by subtune_size packed.subtunes =
     rest_is (sum_by subtune_size packed.subtunes) patterns (9 * count) wave pulse filters speed size (omega arith) in
     same_costs a
@@ -189,10 +183,10 @@ costs_are song used packed options is {player} {patterns} {count} {shared} {unre
     (f ∙ rows_are (filter_programs song used) packed.filter is.filter)
     (both g s ∙ ap (λ (rows : List TableRow). speed_bytes (asked_by packed) (length rows)) is.speed.rows_are)
     (n ∙ ap (frequency_bytes packed.numbers)
-    (read (asked_by packed) counted subtunes (size_is song used packed is)))
+    (read (asked_by packed) counted subtunes (size_is song used packed are is)))
   where
     counted : length packed.instruments ≡ instrument_count used
-    counted = instruments_are song used packed is
+    counted = instruments_are song used packed are is
 
     subtunes : length packed.subtunes ≡ subtune_count song
     subtunes = subtunes_are song used packed is

@@ -131,6 +131,6 @@ pub kept_parts_add_up : KeptPartsAddUp
 kept_parts_add_up song asked options costs kept =
     parts_add_up asked options
     ∙ ap (λ (bytes : ℕ). part_length asked options always + bytes)
-    (sym (told_sum (keeps asked options) (part_length asked options) (range_with_len 0 60))
+    (sym (told_sum (keeps asked options) (part_length asked options) (range_with_len 0 61))
     ∙ ap (sum_by (part_length asked options)) (sym kept.parts)
     ∙ sym (bytes_are song asked options costs kept.each))

@@ -82,8 +82,8 @@ pub parts_add_up : PartsAddUp
 parts_add_up asked options =
     image_parts.parts_add_up asked options
     ∙ ap (λ (bytes : ℕ). part_length asked options always + bytes)
-    (sym (dropped_sum (keeps asked options) (part_length asked options) (range_with_len 0 60)
-    (all_below (DropsNone (keeps asked options) (part_length asked options)) 60
+    (sym (dropped_sum (keeps asked options) (part_length asked options) (range_with_len 0 61)
+    (all_below (DropsNone (keeps asked options) (part_length asked options)) 61
     (λ part high out. image_parts.unkept_parts_have_none asked options part
     (λ is. omega (arith, high, is)) out))))
 
@@ -95,5 +95,5 @@ few_bytes asked options code is =
     subst (λ (c : List ℕ). length c ≤ 65535) (sym is)
     (without (length (code_parts asked options)) (image_parts.code_is_short asked options))
   where
-    without : (n : ℕ) → n + 2 ≤ 1667 → n ≤ 65535
+    without : (n : ℕ) → n + 2 ≤ 1669 → n ≤ 65535
     without n few = omega (arith, few)

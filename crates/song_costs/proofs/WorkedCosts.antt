@@ -6,12 +6,13 @@ use Rattle.song_model.specs.declared.features.Feature.{Feature}
 use Rattle.song_model.specs.declared.features.Feature.TheVariants.{Transpose, PortaUp, FilterTable, WaveTable}
 use Rattle.song_model.specs.declared.features.Feature.TheVariants.{WaveCommand}
 use Rattle.song_model.specs.Feature.{bit_of}
-use Rattle.song_model.specs.LookUp.{table_row, pattern_at}
+use Rattle.song_model.specs.LookUp.{table_row, pattern_at, instrument_at}
 use Rattle.play_model.specs.State.{no_options}
 use Rattle.play_model.specs.WorkedRuns.{first_left_out}
 use Rattle.packed_form.specs.PackedText.{packed_text}
 use Rattle.packing_rules.specs.Segments.{first_row, is_closed, are_equal, first_equal, keeps, stand_in}
-use Rattle.packing_rules.specs.Renumbering.{speed_rows, speed_number, table_number, instrument_number, pattern_text}
+use Rattle.packing_rules.specs.Renumbering.{speed_rows, speed_number, table_number, instruments_in_order}
+use Rattle.packing_rules.specs.Renumbering.{instrument_number, pattern_text}
 use Rattle.packing_rules.specs.Renumbering.{pattern_texts}
 use Rattle.packing_rules.specs.SongSizes.{packed_size}
 use Rattle.song_facts.specs.declared.facts.Fact.{Fact}
@@ -43,7 +44,7 @@ use Rattle.song_places.proofs.Laws.{filter_places_are_worked}
 
 pub note_is_worked : NoteIsWorked
 unfolding packed_text first_row is_closed are_equal first_equal keeps stand_in speed_rows speed_number table_number
-    instrument_number pattern_text pattern_texts table_row pattern_at asked kept_set packed_size
+    instruments_in_order instrument_number instrument_at pattern_text pattern_texts table_row pattern_at asked kept_set packed_size
     voice_rows shared_rows asks has_byte voice_labels other_labels free_places funk_place variable_count
 note_is_worked = record {
   each = refl;
@@ -64,11 +65,13 @@ instruments_are_counted = record {
   waves = refl;
   both = refl;
   gate = refl;
+  envelope = refl;
+  first = refl;
 }
 
 pub tables_are_counted : TablesAreCounted
 unfolding packed_text first_row is_closed are_equal first_equal keeps stand_in speed_rows speed_number table_number
-    instrument_number pattern_text pattern_texts table_row pattern_at asked kept_set packed_size
+    instruments_in_order instrument_number instrument_at pattern_text pattern_texts table_row pattern_at asked kept_set packed_size
     voice_rows shared_rows asks has_byte voice_labels other_labels free_places funk_place variable_count
 tables_are_counted = record {
   instruments = refl;

@@ -1,6 +1,6 @@
 -- The parts of the player that are kept for what a song asks for and its options, each with its bytes and the reason
 -- for it. A part is a condition: 0 to 23 are the features of a song, 24 to 27 the options, 28 to 33 what several features
--- have in common, 34 to 54 the song's facts, and 55 to 59 what several facts or features have in common. This is the
+-- have in common, 34 to 55 the song's facts, and 56 to 60 what several facts or features have in common. This is the
 -- project's own player.
 use Rattle.std.specs.Prelude.{◌≡◌, ◌≢◌, ℕ, Bool, true, not, ◌&&◌, ◌==◌, ◌⊎◌, List, map, filter, All}
 use Rattle.std.specs.List.{range_with_len}

@@ -25,7 +25,9 @@ abbrev pub speed_bytes : ℕ → ℕ → ℕ
 speed_bytes asked rows = 2 * rows + slide_bytes asked rows
 
 -- how many instruments are used: each has nine bytes, of which six stand in an image only where one of them needs such
--- a byte, or two differ in it; a gateoff timer and a first waveform that are the same for all stand there once
+-- a byte, or two differ in it, or the first holds more before its notes than another; a gateoff timer and a first
+-- waveform that are the same for all stand there once, and so do the numbers from which on they hold the gate and the
+-- envelope
 abbrev pub instrument_count : UsedSets → ℕ
 instrument_count used = count_by used.instruments (numbers MOST_INSTRUMENTS)
 

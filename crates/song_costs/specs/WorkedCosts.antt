@@ -96,8 +96,9 @@ pub record OrdersAreCounted : Type 0 where
 
 -- where two instruments are used, these and no third one are counted: with three bytes each and two for both where no
 -- instrument needs another, and with four each where one begins a pulse program; where the two differ in their gateoff
--- timers or their first waveforms with one more each and one less for both; and where one keeps the gate the timer of
--- each is read, and the one for both stands there, too
+-- timers or their first waveforms with one more each and one less for both; where one holds the gate or the envelope
+-- with one more for both; and where the first holds more the timer of each is read, and the one for both stands there,
+-- too
 abbrev pub two_used : Facts → Costs
 two_used facts =
     costs_of one_note (record (note_sets (0 ∷ 1 ∷ [])) { instruments = among (1 ∷ 3 ∷ []) }) (asked note_features facts)
@@ -109,7 +110,9 @@ pub record InstrumentsAreCounted : Type 0 where
   pub timers : (two_used (record no_facts { own_timer = true })).instruments ≡ 9
   pub waves : (two_used (record no_facts { own_wave = true })).instruments ≡ 9
   pub both : (two_used (record no_facts { own_timer = true; own_wave = true })).instruments ≡ 10
-  pub gate : (two_used (record no_facts { legato = true })).instruments ≡ 10
+  pub gate : (two_used (record no_facts { legato = true })).instruments ≡ 9
+  pub envelope : (two_used (record no_facts { legato = true; no_hard_restart = true })).instruments ≡ 10
+  pub first : (two_used (record no_facts { legato = true; first_holds = true })).instruments ≡ 10
 
 -- a note of an instrument with two wave rows, three pulse rows, four filter rows and a vibrato
 abbrev pub rich_note : Song

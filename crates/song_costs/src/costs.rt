@@ -4,7 +4,7 @@ ghost use Rattle.std.specs.Prelude.{◌≡◌, ◌≤◌, ◌*◌, sum_by, lengt
 ghost use Rattle.song_model.specs.declared.songs.Song.{Song as AnySong};
 ghost use Rattle.play_model.specs.declared.options.Options.{Options};
 ghost use Rattle.packed_form.specs.Sizes.{list_size};
-ghost use Rattle.packing_rules.specs.UsedSets.{UsedSets};
+ghost use Rattle.packing_rules.specs.UsedSets.{UsedSets, AreUsedSets};
 ghost use Rattle.kept_lines.specs.Asked.{asked_by};
 ghost use Rattle.image_parts.specs.CodeParts.{code_parts};
 ghost use Rattle.image_parts.specs.Lengths.{bytes_of_image};
@@ -27,7 +27,8 @@ pub struct Costs {
     /// The patterns, with two bytes for the address of each.
     pub patterns: u32,
     /// The instruments: of each the bytes that are read, three, and one more for each field that some instrument needs;
-    /// and one for all of them where they have the same gateoff timer, and where they have the same first waveform.
+    /// one for all of them where they have the same gateoff timer, and where they have the same first waveform; and one
+    /// each for the numbers from which on they hold the gate and the envelope before a note, where these stand.
     pub instruments: u32,
     /// The rows of the wave table, two bytes each.
     pub wave: u32,
@@ -82,9 +83,9 @@ fn rows_bytes(table: &Table) -> u32
 /// (`image_parts::code_parts`).
 pub fn costs_by_kind(packed: &PackedSong, code: &[u8]) -> Costs
     requires { length code.now ≤ 65535 }
-    // Each number is the one that the packed form's definitions name.
-    ensures exact { (song : AnySong) (used : UsedSets) (options : Options) → IsPacked song used packed.now →
-        code.now ≡ code_parts (asked_by packed.now) options →
+    // Each number is the one that the packed form's definitions name, for what the song uses.
+    ensures exact { (song : AnySong) (used : UsedSets) (options : Options) → AreUsedSets song used →
+        IsPacked song used packed.now → code.now ≡ code_parts (asked_by packed.now) options →
         result ≡ costs_of song used (asked_by packed.now) packed.now.numbers options }
     // They add up to the image's length.
     ensures length { all_bytes result ≡ bytes_of_image packed.now code.now }

@@ -18,7 +18,7 @@ use usage::UsedParts;
 /// How many parts there are beside the one that every image has: those of the features, behind them those of the
 /// options and what several features have in common, then those of the song's facts, and what several facts or features
 /// have in common.
-pub const PARTS: u8 = 60;
+pub const PARTS: u8 = 61;
 
 /// The names of the parts, each at its number, as musicians say them.
 pub const PART_NAMES: [&str; PARTS as usize] = [
@@ -77,6 +77,7 @@ pub const PART_NAMES: [&str; PARTS as usize] = [
     "several subtunes",
     "second voice",
     "third voice",
+    "first holds more",
     "row commands",
     "special wave rows",
     "held gate or envelope",
@@ -98,7 +99,7 @@ pub enum Cause {
 /// What a part of the player costs.
 #[derive(Clone, Copy, Debug, PartialEq, Eq)]
 pub struct PartCost {
-    /// The part, 0 to 59.
+    /// The part, 0 to 60.
     pub part: u8,
     /// Its bytes, from 1 on.
     pub bytes: u32,

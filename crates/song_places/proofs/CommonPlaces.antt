@@ -23,6 +23,7 @@ use Rattle.song_facts.specs.declared.facts.Fact.TheVariants.{RowTone, RowSlide, 
 use Rattle.song_facts.specs.declared.facts.Fact.TheVariants.{WaveDelay, GateNote, NoteVibrato, VibratoDelay, NotePulse, NoteFilter}
 use Rattle.song_facts.specs.declared.facts.Fact.TheVariants.{VoiceTempo, CommonTempo, FunkTurns, FunkChoice}
 use Rattle.song_facts.specs.declared.facts.Fact.TheVariants.{OwnTimer, OwnWave, Subtunes, VoiceTwo, VoiceThree}
+use Rattle.song_facts.specs.declared.facts.Fact.TheVariants.{FirstHolds}
 use Rattle.player_memory.specs.declared.conditions.TheConstants.{SKIP_EFFECTS, CLIMB, FOUND_NOTE}
 use Rattle.player_memory.specs.FactLines.{fact_condition}
 use Rattle.song_places.specs.declared.places.Place.{Place}
@@ -110,6 +111,7 @@ no_fact_rest song OwnWave meant = meant
 no_fact_rest song Subtunes meant = meant
 no_fact_rest song VoiceTwo meant = meant
 no_fact_rest song VoiceThree meant = meant
+no_fact_rest song FirstHolds meant = meant
 no_fact_rest song GateNote (inl off) = omega (arith, off)
 no_fact_rest song GateNote (inr on) = omega (arith, on)
 
@@ -308,6 +310,7 @@ no_fact_reaches OwnWave = refl
 no_fact_reaches Subtunes = refl
 no_fact_reaches VoiceTwo = refl
 no_fact_reaches VoiceThree = refl
+no_fact_reaches FirstHolds = refl
 
 none_in_zero : (i : ℕ) → ¬ NeedsFor (sliding 1 3) FOUND_NOTE (InPattern 0 i)
 none_in_zero i (inl h) = no_note_in_zero h.feature i h.is_kept h.needs

@@ -11,6 +11,8 @@ use Rattle.song_facts.specs.declared.facts.Fact.TheVariants.{RowTone, RowSlide, 
 use Rattle.song_facts.specs.declared.facts.Fact.TheVariants.{WaveDelay, GateNote, NoteVibrato, VibratoDelay, NotePulse, NoteFilter}
 use Rattle.song_facts.specs.declared.facts.Fact.TheVariants.{VoiceTempo, CommonTempo, FunkTurns, FunkChoice}
 use Rattle.song_facts.specs.declared.facts.Fact.TheVariants.{OwnTimer, OwnWave, Subtunes, VoiceTwo, VoiceThree}
+use Rattle.song_facts.specs.declared.facts.Fact.TheVariants.{FirstHolds}
+use Rattle.song_facts.specs.Hold.{HoldsMore}
 use Rattle.song_facts.specs.Facts.{IsTone, IsSlide, IsOnce, IsGateNote, IsMask, IsLegato, KeepsEnvelope, IsDelay}
 use Rattle.song_facts.specs.Facts.{HasVibrato, HasVibratoDelay, HasPulse, HasFilter, DifferInTimer, DifferInWave}
 use Rattle.song_facts.specs.Facts.{IsVoiceTempo, IsCommonTempo, IsFunkTurns, IsFunkChoice}
@@ -86,6 +88,7 @@ has_fact_place song OwnWave h = instrument_place song OwnWave (other_than_first 
 has_fact_place song Subtunes h = several_place song h
 has_fact_place song VoiceTwo h = heard_place song VoiceTwo 2 channel_two (λ s b names. (refl, names)) h
 has_fact_place song VoiceThree h = heard_place song VoiceThree 3 channel_three (λ s b names. (refl, names)) h
+has_fact_place song FirstHolds h = instrument_place song FirstHolds h
 
 -- ---- and from a place to what is had
 
@@ -135,6 +138,7 @@ has_fact song OwnWave place at =
 has_fact song Subtunes place at = several_from song place at
 has_fact song VoiceTwo place at = heard_from song 2 place at
 has_fact song VoiceThree place at = heard_from song 3 place at
+has_fact song FirstHolds place at = instrument_had song (HoldsMore (instrument_at song 1)) place at
 
 pub facts_are_needed : FactsAreNeeded
 facts_are_needed song fact =

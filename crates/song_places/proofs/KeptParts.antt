@@ -110,7 +110,7 @@ fact_asked_for fact =
     rw (
       le-ltb (fact_condition fact) 24 (omega (arith, is)),
       le-leb 34 (fact_condition fact) (omega (arith, is)),
-      lt-ltb (fact_condition fact) 55 (omega (arith, is, small)),
+      lt-ltb (fact_condition fact) 56 (omega (arith, is, small)),
     ) refl
 
 own_keeps : (own : ℕ) → is_asked_for own ≡ true → keeps_part own own ≡ true
@@ -259,12 +259,12 @@ keeper set options part other kept = elim (cases_Bool (is_asked_for part)) [
 -- ---- such a condition is a feature's or a fact's
 
 low_or_between : (condition : ℕ) → is_asked_for condition ≡ true →
-    (condition < 24) ⊎ ((34 ≤ condition) × (condition < 55))
+    (condition < 24) ⊎ ((34 ≤ condition) × (condition < 56))
 low_or_between condition asked = elim (or_cases (nat_lt condition 24) _ asked) [
   | inl low ↦ inl (ltb-true condition 24 low)
   | inr between ↦
-      (let both = and_parts _ (nat_lt condition 55) between in
-      inr (leb-true 34 condition both.0, ltb-true condition 55 both.1))
+      (let both = and_parts _ (nat_lt condition 56) between in
+      inr (leb-true 34 condition both.0, ltb-true condition 56 both.1))
 ]
 
 by_feature : (song : Song) (set part : ℕ) (feature : Feature) → Asks song set →

@@ -13,6 +13,7 @@ pub use Rattle.song_places.proofs.KeptParts.{kept_for, kept_for_none}
 pub use Rattle.song_places.proofs.WorkedPlaces.{transposes_are_worked, portamentos_are_worked, tables_are_worked, risen}
 pub use Rattle.song_places.proofs.WorkedFactPlaces.{gate_notes_are_worked, facts_are_worked, pairs_are_worked}
 pub use Rattle.song_places.proofs.WorkedFactPlaces.{subtunes_are_worked}
+pub use Rattle.song_places.proofs.WorkedHolds.{holds_are_worked}
 pub use Rattle.song_places.proofs.WorkedVoices.{voices_are_worked}
 pub use Rattle.song_places.proofs.CommonPlaces.{crossing_first}
 pub use Rattle.song_places.proofs.SharedPlaces.{wave_places_are_worked}

@@ -24,6 +24,7 @@ mod PartSteps
 mod WorkedPlaces
 mod CommonPlaces
 mod WorkedFactPlaces
+mod WorkedHolds
 mod WorkedVoices
 mod SharedPlaces
 mod FilterPlaces

@@ -8,6 +8,7 @@ use Rattle.song_facts.specs.declared.facts.Fact.TheVariants.{RowTone, RowSlide, 
 use Rattle.song_facts.specs.declared.facts.Fact.TheVariants.{WaveDelay, GateNote, NoteVibrato, VibratoDelay, NotePulse, NoteFilter}
 use Rattle.song_facts.specs.declared.facts.Fact.TheVariants.{VoiceTempo, CommonTempo, FunkTurns, FunkChoice}
 use Rattle.song_facts.specs.declared.facts.Fact.TheVariants.{OwnTimer, OwnWave, Subtunes, VoiceTwo, VoiceThree}
+use Rattle.song_facts.specs.declared.facts.Fact.TheVariants.{FirstHolds}
 use Rattle.song_facts.specs.declared.facts.Facts.{Facts}
 use Rattle.song_facts.specs.Facts.{number_of, is_among}
 use Rattle.player_memory.specs.FactLines.{fact_condition}
@@ -16,7 +17,7 @@ use Rattle.song_places.specs.declared.part_places.TheConstants.{FACTS}
 
 -- a fact stands at its number, and its condition is behind 34 others
 pub record IsAtNumber (fact : Fact) : Type 0 where
-  pub small : number_of fact < 21
+  pub small : number_of fact < 22
   pub there : (d : Fact) → get_or FACTS (number_of fact) d ≡ fact
   pub condition : fact_condition fact ≡ 34 + number_of fact
   -- it is asked for where the song has it
@@ -65,15 +66,17 @@ at_number VoiceTwo =
     record { small = lit< tt; there = λ d. refl; condition = refl; asked = λ features facts. refl }
 at_number VoiceThree =
     record { small = lit< tt; there = λ d. refl; condition = refl; asked = λ features facts. refl }
+at_number FirstHolds =
+    record { small = lit< tt; there = λ d. refl; condition = refl; asked = λ features facts. refl }
 
-numbers_in_order : map number_of FACTS ≡ range_with_len 0 21
+numbers_in_order : map number_of FACTS ≡ range_with_len 0 22
 numbers_in_order = refl
 
-pub number_there : (n : ℕ) (d : Fact) → n < 21 → number_of (get_or FACTS n d) ≡ n
+pub number_there : (n : ℕ) (d : Fact) → n < 22 → number_of (get_or FACTS n d) ≡ n
 number_there n d few =
     sym (get_or-map number_of FACTS n d (number_of d) few)
     ∙ ap (λ (xs : List ℕ). get_or xs n (number_of d)) numbers_in_order
-    ∙ get_or-range_with_len 0 21 n (number_of d) few ∙ zero-add n
+    ∙ get_or-range_with_len 0 22 n (number_of d) few ∙ zero-add n
 
 -- one fact has a number
 pub same_number : (one other : Fact) → number_of one ≡ number_of other → one ≡ other

@@ -161,11 +161,11 @@ facts_for song part = record {
   same = same_number;
 }
 
-pub to_fact : (song : Song) (part : ℕ) (place : Place) → NeedsBelow (facts_for song part) 21 place →
+pub to_fact : (song : Song) (part : ℕ) (place : Place) → NeedsBelow (facts_for song part) 22 place →
     NeedsFactFor song part place
 to_fact song part place h = record { fact = h.item; is_kept = h.is_kept; needs = h.needs }
 
 pub of_fact : (song : Song) (part : ℕ) (place : Place) → NeedsFactFor song part place →
-    NeedsBelow (facts_for song part) 21 place
+    NeedsBelow (facts_for song part) 22 place
 of_fact song part place h =
     record { item = h.fact; is_kept = h.is_kept; needs = h.needs; low = (at_number h.fact).small }

@@ -25,6 +25,8 @@ use Rattle.song_facts.specs.declared.facts.Fact.TheVariants.{RowTone, RowSlide, 
 use Rattle.song_facts.specs.declared.facts.Fact.TheVariants.{WaveDelay, GateNote, NoteVibrato, VibratoDelay, NotePulse, NoteFilter}
 use Rattle.song_facts.specs.declared.facts.Fact.TheVariants.{VoiceTempo, CommonTempo, FunkTurns, FunkChoice}
 use Rattle.song_facts.specs.declared.facts.Fact.TheVariants.{OwnTimer, OwnWave, Subtunes, VoiceTwo, VoiceThree}
+use Rattle.song_facts.specs.declared.facts.Fact.TheVariants.{FirstHolds}
+use Rattle.song_facts.specs.Hold.{HoldsMore}
 use Rattle.song_facts.specs.Facts.{IsHeard, IsOfRow, IsOfInstrument, IsOfWaveRow, DifferInTimer, DifferInWave}
 
 pub record Need : Type 1 where
@@ -102,8 +104,9 @@ need_of song SetTempo = of_rows (λ c d. (c ≡ 0xF) × (3 ≤ d % 128))
 need_of song WaveTable = of_pointers Wave IsAny
 need_of song WaveCommand = of_left_sides 0xF0 0xFE
 
--- An instrument gives a song the fact. Each voice begins with instrument 1, so a fact of two instruments is given by one
--- that differs from it, and its first place is the first used instrument that does.
+-- An instrument gives a song the fact. Each voice begins with instrument 1, so a fact of two instruments is given by
+-- one that differs from it, and its first place is the first used instrument that does; and the fact that instrument 1
+-- holds more before a note than another is given by one that holds less.
 abbrev pub GivesFact : Song → Fact → Instrument → Type 0
 GivesFact song RowTone = IsOfInstrument RowTone
 GivesFact song RowSlide = IsOfInstrument RowSlide
@@ -126,6 +129,7 @@ GivesFact song OwnWave = DifferInWave (instrument_at song 1)
 GivesFact song Subtunes = IsOfInstrument Subtunes
 GivesFact song VoiceTwo = IsOfInstrument VoiceTwo
 GivesFact song VoiceThree = IsOfInstrument VoiceThree
+GivesFact song FirstHolds = HoldsMore (instrument_at song 1)
 
 -- a subtune that stands before this one can be played; it is counted from 0, and this one from 1
 pub record IsBehindPlayable (song : Song) (s : ℕ) : Type 0 where

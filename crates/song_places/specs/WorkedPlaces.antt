@@ -9,6 +9,7 @@ use Rattle.song_model.specs.Silence.{empty_song, rest_row}
 use Rattle.play_model.specs.WorkedSongs.{subtune, row, sides, other_vibrato}
 use Rattle.song_facts.specs.declared.facts.Fact.TheVariants.{RowSlide, FirstMask, GateNote, NotePulse, NoteFilter}
 use Rattle.song_facts.specs.declared.facts.Fact.TheVariants.{OwnTimer, OwnWave, Subtunes, VoiceTwo, VoiceThree}
+use Rattle.song_facts.specs.declared.facts.Fact.TheVariants.{FirstHolds}
 use Rattle.player_memory.specs.declared.conditions.TheConstants.{PORTA_UP, SKIP_EFFECTS, CLIMB, FOUND_NOTE, ROW_SLIDE}
 use Rattle.player_memory.specs.declared.conditions.TheConstants.{ROW_COMMAND, SPECIAL_ROW, EFFECTS, FILTER_USED}
 use Rattle.song_places.specs.declared.places.Place.{Place}
@@ -100,6 +101,32 @@ pub record PairsAreWorked : Type 0 where
   pub no_first_wave : (song : Song) → ¬ NeedsFactAt song OwnWave (InInstrument 1)
   pub other_wave : NeedsFactAt (other_vibrato 5) OwnWave (InInstrument 2)
   pub same_timer : ¬ NeedsFactAt (other_vibrato 5) OwnTimer (InInstrument 2)
+
+-- pattern 0 names instruments 2 and 3, and the three have these gateoff timers
+abbrev pub holding : ℕ → ℕ → ℕ → Song
+holding one two three = record empty_song {
+  subtunes = subtune (0 ∷ []) (0 ∷ []) (0 ∷ []) ∷ [];
+  patterns = (row 0x90 2 0 0 ∷ row 0x90 3 0 0 ∷ []) ∷ [];
+  instruments = record zero_instrument { gate_timer = one } ∷ record zero_instrument { gate_timer = two }
+      ∷ record zero_instrument { gate_timer = three } ∷ [];
+}
+
+-- Instrument 1 holds its gate, and the next its envelope, or it holds its envelope, and the next nothing: the place is
+-- that of the first used instrument that holds less. One that holds as much is none, though its timer is another one,
+-- nor one that holds more; nor is an instrument that isn't used, instrument 1 itself, or the row that names one.
+pub record HoldsAreWorked : Type 0 where
+  pub gate : IsFirstFactPlace (holding 0x42 0x82 0x02) FirstHolds (InInstrument 2)
+  pub envelope : IsFirstFactPlace (holding 0x82 0x02 0x82) FirstHolds (InInstrument 2)
+  pub next : NeedsFactAt (holding 0x42 0x82 0x02) FirstHolds (InInstrument 3)
+  pub not_next : ¬ IsFirstFactPlace (holding 0x42 0x82 0x02) FirstHolds (InInstrument 3)
+  pub behind : IsFirstFactPlace (holding 0x42 0xC3 0x82) FirstHolds (InInstrument 3)
+  pub as_much : ¬ NeedsFactAt (holding 0x42 0xC3 0x82) FirstHolds (InInstrument 2)
+  pub other_timer : NeedsFactAt (holding 0x42 0xC3 0x82) OwnTimer (InInstrument 2)
+  pub more : ¬ NeedsFactAt (holding 0x82 0x42 0x02) FirstHolds (InInstrument 2)
+  pub nowhere : (place : Place) → ¬ NeedsFactAt (holding 0x82 0x42 0x83) FirstHolds place
+  pub unused : ¬ NeedsFactAt (holding 0x42 0x82 0x02) FirstHolds (InInstrument 4)
+  pub no_first : (song : Song) → ¬ NeedsFactAt song FirstHolds (InInstrument 1)
+  pub no_row : ¬ NeedsFactAt (holding 0x42 0x82 0x02) FirstHolds (InPattern 0 0)
 
 -- the second of these subtunes and the fourth can be played
 abbrev pub several : Song

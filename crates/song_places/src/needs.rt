@@ -12,7 +12,7 @@ ghost use Rattle.song_places.specs.Needs.{Points, GivesFact, NamesHeard, OrdersG
 ghost use Rattle.song_places.specs.Places.{IsNeededAt, NeedsAt};
 ghost use Rattle.song_places.specs.Search.{IsParameter, meant, IsKnown};
 
-use song_facts::Fact;
+use song_facts::{Fact, holds_more};
 use song_model::{
     Feature, Instrument, Row, Song, TableName, TableRow, command_table, wave_row_table,
 };
@@ -100,12 +100,14 @@ fn points_at_note_speed(song: &Song, table: Option<TableName>, pointer: u8) -> b
     points(table, TableName::Speed, pointer) && song.speed(pointer).left >= 0x80
 }
 
-/// Whether an instrument gives the song the fact: by itself, or as one that differs from instrument 1.
+/// Whether an instrument gives the song the fact: by itself, as one that differs from instrument 1, or as one that
+/// holds less before a note.
 fn gives_fact(song: &Song, fact: Fact, instrument: &Instrument) -> bool
     ensures { IsTrue result ↔ GivesFact song.now fact instrument.now }
 {
     match fact {
         Fact::OwnTimer | Fact::OwnWave => fact.is_of_pair(&song.instrument(1), instrument),
+        Fact::FirstHolds => holds_more(&song.instrument(1), instrument),
         _ => fact.is_of_instrument(instrument),
     }
 }

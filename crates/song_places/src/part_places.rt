@@ -49,7 +49,7 @@ const FEATURES: [Feature; 24] = [
 ];
 
 /// The facts in the order of their numbers.
-const FACTS: [Fact; 21] = [
+const FACTS: [Fact; 22] = [
     Fact::RowTone,
     Fact::RowSlide,
     Fact::RowOnce,
@@ -71,6 +71,7 @@ const FACTS: [Fact; 21] = [
     Fact::Subtunes,
     Fact::VoiceTwo,
     Fact::VoiceThree,
+    Fact::FirstHolds,
 ];
 
 /// What a song asks for that uses this feature alone.
@@ -136,7 +137,7 @@ fn fact_place(song: &Song, parts: &UsedParts, part: u8) -> Option<Place>
     first
 }
 
-/// The first place of a song that needs a part of the player, 0 to 59: the earliest of the first places of the features
+/// The first place of a song that needs a part of the player, 0 to 60: the earliest of the first places of the features
 /// and facts that keep it. None where no place does, as with the parts of the options, 24 to 27.
 pub fn part_place(song: &Song, parts: &UsedParts, part: u8) -> Option<Place>
     requires { AreUsedParts song.now parts.now }

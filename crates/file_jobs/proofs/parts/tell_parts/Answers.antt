@@ -75,7 +75,7 @@ returns g c =
     let same = one_asked song _ _ as_packed asks in
     let code = c.as_slice.ensures ∙ c.in_ok-code.ensures
     ∙ ap (λ set. code_parts set c.args.options) (c.asked.ensures ∙ sym same) in
-    let costs = c.costs_by_kind-costs.ensures.exact song (sets_of parts) c.args.options packed code
+    let costs = c.costs_by_kind-costs.ensures.exact song (sets_of parts) c.args.options used packed code
     ∙ ap (λ set. costs_of song (sets_of parts) set c.in_ok-packed.packed.numbers c.args.options) same in
     let told : TellCosts song c.args.options (kind_lines c.costs_by_kind-costs.result ++ map part_line c.in_ok-told.told.items) =
     record {

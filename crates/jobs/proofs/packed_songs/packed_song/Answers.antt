@@ -16,7 +16,7 @@ returns-in-Ok-clause-packs c = λ keeps.
       are_used = used;
       size = (c.in-Ok.ensures.size (sets_of c.args.parts.now) used keeps).is;
       instruments =
-          instruments_are c.args.song.now (sets_of c.args.parts.now) _
+          instruments_are c.args.song.now (sets_of c.args.parts.now) _ used
           (c.in-Ok.ensures.exact (sets_of c.args.parts.now) used keeps);
       speeds = ap length (c.in-Ok.ensures.exact (sets_of c.args.parts.now) used keeps).speed.rows_are;
     }

@@ -25,7 +25,7 @@ returns-in-Ok-pack_song c =
       are_used = used;
       size = (c.in-Ok-pack_song.ensures.size (sets_of parts) used c.requires.limits).is;
       instruments =
-          instruments_are c.args.song.now (sets_of parts) _
+          instruments_are c.args.song.now (sets_of parts) _ used
           (c.in-Ok-pack_song.ensures.exact (sets_of parts) used c.requires.limits);
       speeds = ap length (c.in-Ok-pack_song.ensures.exact (sets_of parts) used c.requires.limits).speed.rows_are;
     }

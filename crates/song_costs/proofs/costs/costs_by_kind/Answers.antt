@@ -32,8 +32,8 @@ overflow_sub-result c =
     omega (arith, within, unlisted, size, patterns, instruments, wave, pulse, filter, speed)
 
 pub returns-clause-exact : goal.returns-clause-exact
-returns-clause-exact c = λ song used options is code_is.
-    costs_are song used c.args.packed.now options is (c.code_length.ensures ∙ ap length_of code_is)
+returns-clause-exact c = λ song used options are is code_is.
+    costs_are song used c.args.packed.now options are is (c.code_length.ensures ∙ ap length_of code_is)
     c.patterns_bytes-patterns.ensures.size (ap length c.as_slice.ensures.items) c.shared_size.ensures.size
     c.unread_size.ensures.size c.unlisted_size.ensures.size c.rows_bytes-wave.ensures.size
     c.rows_bytes-pulse.ensures.size c.rows_bytes-filter.ensures.size

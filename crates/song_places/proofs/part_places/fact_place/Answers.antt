@@ -44,10 +44,10 @@ loop-fact-preserved c =
     ]
 
 -- all have been looked at
-all : (song : Song) (part n : ℕ) (found : Option Place) → 21 ≤ n → n ≤ 21 →
-    IsFoundBelow (facts_for song part) n found → IsFoundBelow (facts_for song part) 21 found
+all : (song : Song) (part n : ℕ) (found : Option Place) → 22 ≤ n → n ≤ 22 →
+    IsFoundBelow (facts_for song part) n found → IsFoundBelow (facts_for song part) 22 found
 all song part n found high low so_far =
-    (let is : n ≡ 21 = omega (arith, high, low) in
+    (let is : n ≡ 22 = omega (arith, high, low) in
     subst (λ (m : ℕ). IsFoundBelow (facts_for song part) m found) is so_far)
 
 pub returns-clause-first : goal.returns-clause-first
@@ -56,7 +56,7 @@ returns-clause-first c =
     let part = c.args.part in
     let n = c.loop-fact.fact-index in
     let found = c.loop-fact.first in
-    all_first (facts_for song part) 21 (NeedsFactFor song part) found (to_fact song part) (of_fact song part)
+    all_first (facts_for song part) 22 (NeedsFactFor song part) found (to_fact song part) (of_fact song part)
     (all song part n found c.loop-fact-test.false c.loop-fact.auto.fact-index-end c.loop-fact.invariant)
 
 pub returns-clause-none : goal.returns-clause-none
@@ -65,5 +65,5 @@ returns-clause-none c =
     let part = c.args.part in
     let n = c.loop-fact.fact-index in
     let found = c.loop-fact.first in
-    all_none (facts_for song part) 21 (NeedsFactFor song part) found (of_fact song part)
+    all_none (facts_for song part) 22 (NeedsFactFor song part) found (of_fact song part)
     (all song part n found c.loop-fact-test.false c.loop-fact.auto.fact-index-end c.loop-fact.invariant)
