@@ -45,7 +45,8 @@ pub record Scene (layout : Layout) (packed : PackedSong) (song : Song) (o : Opti
   pub below : k < length packed.subtunes
   pub safe : IsSafe (unpacked_song packed) k x
   pub notes : KeepAllNotes (unpacked_song packed) x
-  pub mute : (voice : ℕ) → voice < 3 → IsSilentChannel (unpacked_song packed) (voice + 1) → IsMute (voice_of (voice + 1) x)
+  pub mute :
+      (voice : ℕ) → voice < 3 → IsSilentChannel (unpacked_song packed) (voice + 1) → IsMute (voice_of (voice + 1) x)
   pub range : IsFrameState x
 
 -- the frame has what its steps read, and is ready for them

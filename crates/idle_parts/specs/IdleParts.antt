@@ -2,7 +2,8 @@
 -- block finds in registers is said with the block's own lines. A law on lines that read a byte which is kept under a
 -- condition alone has that condition as a premise: it is about layouts that keep the byte. This is the project's own
 -- player.
-use Rattle.std.specs.Prelude.{◌≡◌, ◌≢◌, ℕ, ◌+◌, ◌%◌, ◌<◌, ◌≤◌, ◌⊎◌, true, false, List, [], ◌∷◌}
+use Rattle.std.specs.Prelude.{◌≡◌, ◌≢◌, ℕ, ◌+◌, ◌%◌, ◌<◌}
+use Rattle.std.specs.Prelude.{◌≤◌, ◌⊎◌, true, false, List, [], ◌∷◌}
 use Rattle.play_model.specs.State.{Playing, Common}
 use Rattle.play_model.specs.TickStep.{tempo_of}
 use Rattle.scopes.specs.declared.line.Line.{Line}

@@ -1,5 +1,6 @@
 -- Plans that are worked by hand, how many bytes their code takes, and plans and lists that are none.
-use Rattle.std.specs.Prelude.{◌≡◌, ℕ, ◌+◌, ◌-◌, ◌≤◌, ◌==◌, ◌||◌, not, if◌then◌else◌, Bool, true, false}
+use Rattle.std.specs.Prelude.{◌≡◌, ℕ, ◌+◌, ◌-◌, ◌≤◌, ◌==◌}
+use Rattle.std.specs.Prelude.{◌||◌, not, if◌then◌else◌, Bool, true, false}
 use Rattle.std.specs.Prelude.{List, [], ◌∷◌, replicate}
 use Rattle.cpu6502.specs.declared.mnemonic.Mnemonic.TheVariants.{Rts}
 use Rattle.cpu6502.specs.declared.mnemonic.Mode.TheVariants.{Implied}

@@ -1,4 +1,5 @@
--- Bytes in the order of their places, variables without a pattern, and where the blocks of an image may read and write, worked by hand.
+-- Bytes in the order of their places, variables without a pattern, and where the blocks of an image may read and
+-- write, worked by hand.
 use Rattle.std.specs.Prelude.{◌≡◌, ℕ, ◌+◌, true, false, nat_eq, nat_le, if◌then◌else◌, [], ◌∷◌}
 use Rattle.player_memory.specs.declared.labels.TheConstants.{PATTERN_LOW, PATTERN_HIGH, OFFSET}
 use Rattle.player_image.specs.Images.{placed, is_read, is_written, HaveNoPattern}

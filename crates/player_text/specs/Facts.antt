@@ -11,7 +11,8 @@ use Rattle.scope_lines.specs.Readings.{is_block}
 use Rattle.scope_lines.specs.Known.{nothing, the_a, the_x, shown, either, known}
 use Rattle.scope_lines.specs.Homes.{uses_only}
 use Rattle.player_memory.specs.declared.labels.TheConstants.{VARIABLES, FREQUENCY_LOWS, ONE_WAVE, SLIDES_LOW}
-use Rattle.player_memory.specs.declared.labels.TheConstants.{SLIDES_HIGH, GATE_FROM, ENVELOPE_FROM, FILTER_LEFTS, NEXT_FILTER_LEFTS}
+use Rattle.player_memory.specs.declared.labels.TheConstants.{SLIDES_HIGH, GATE_FROM, ENVELOPE_FROM}
+use Rattle.player_memory.specs.declared.labels.TheConstants.{FILTER_LEFTS, NEXT_FILTER_LEFTS}
 use Rattle.player_memory.specs.declared.labels.TheConstants.{FILTER_RIGHTS, ORDERS_LOW, ORDERS_HIGH}
 use Rattle.player_memory.specs.Labels.{is_shared}
 use Rattle.player_text.specs.declared.texts.Start.{Start}

@@ -10,7 +10,8 @@ use Rattle.player_memory.specs.declared.conditions.TheConstants.{TIMED, FUNK_TEM
 use Rattle.player_text.specs.declared.filter.TheConstants.{FILTER}
 use Rattle.player_text.specs.declared.texts.Start.{Start}
 use Rattle.player_text.specs.declared.init.TheConstants.{SUBTUNE_TAKEN, TIMER_LOW_SET, TIMER_HIGH_SET, REGISTERS_CLEARED}
-use Rattle.player_text.specs.declared.init.TheConstants.{VARIABLES_CLEARED, FUNK_STARTED, VOICES_STARTED, VOICE_STARTED, TEMPO_STARTED}
+use Rattle.player_text.specs.declared.init.TheConstants.{VARIABLES_CLEARED, FUNK_STARTED, VOICES_STARTED}
+use Rattle.player_text.specs.declared.init.TheConstants.{VOICE_STARTED, TEMPO_STARTED}
 use Rattle.player_text.specs.declared.voice.TheConstants.{VOICE}
 
 -- ---- play: the filter, and each voice

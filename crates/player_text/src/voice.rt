@@ -13,8 +13,8 @@ use crate::tick::TICK_STEP;
 use crate::wave::WAVE_STEP;
 use scopes::Line;
 
-/// A voice in a frame: where it is run its step and the fetch of its next row, and its registers. X is 7 times the voice's number, and no
-/// other register is rested on.
+/// A voice in a frame: where it is run its step and the fetch of its next row, and its registers. X is 7 times the
+/// voice's number, and no other register is rested on.
 pub const VOICE: &[&[&[Line]]] = steps! {
     scope SOUNDS {
         put SILENCE;

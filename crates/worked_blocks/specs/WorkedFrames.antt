@@ -142,8 +142,8 @@ pub record BeginsExactly (layout : Layout) (packed : PackedSong) (o : Options) (
       ¬ BeginsSubtune layout packed o k count before (leaving run place (before.at place + 1))
 
 -- no frame is ready whose filter's program has no lines, nor any where the filter's table has lines and its bytes have
--- none, nor one with a voice that isn't run and would write another number than 0; and no call has the number of a subtune with another number in A, with one that isn't stored, or with one whose
--- third orderlist's number is no byte
+-- none, nor one with a voice that isn't run and would write another number than 0; and no call has the number of a
+-- subtune with another number in A, with one that isn't stored, or with one whose third orderlist's number is no byte
 pub record ReadyExactly (layout : Layout) (packed : PackedSong) (o : Options) (k : ℕ) (x : FrameState) (at : ℕ → ℕ)
     (desk : Desk) : Type 0 where
   pub filter : x.common.filter_ptr ≢ 0 → layout.holds FILTER_TABLE ≡ false → ¬ FrameIsReady layout packed o k x at
