@@ -60,7 +60,7 @@ filter_done_alike maps song k other x y play a q = record {
 }
 
 -- the orderlist of the first, the second or the third channel
-abbrev chosen_order : Subtune → Bool → Bool → Order
+abbrev pub chosen_order : Subtune → Bool → Bool → Order
 chosen_order subtune first second =
     cond first (order_of 1 subtune) (cond second (order_of 2 subtune) (order_of 3 subtune))
 

@@ -17,6 +17,8 @@ pub use Rattle.same_frames.proofs.Themselves.{themselves_lem}
 pub use Rattle.same_frames.proofs.Reading.{after_reached}
 -- orderlists and subtunes with new numbers for their patterns play these
 pub use Rattle.same_frames.proofs.Orders.{moved_orders_lem, moved_subtunes_lem}
+-- the bytes of an orderlist that number patterns, and the others
+pub use Rattle.same_frames.proofs.Orders.{is_low, is_lower, is_high}
 -- over any two look-ups each rule commutes with new numbers, where what it meets agrees
 pub use Rattle.same_frames.proofs.Moved.{Held, held_of, put, put_playing, put_waved, put_ticked}
 pub use Rattle.same_frames.proofs.Slides.{IsSpeedFor}
@@ -29,3 +31,6 @@ pub use Rattle.same_frames.proofs.Images.{IsUnder, StandsForOne, IsImage, image_
 pub use Rattle.same_frames.proofs.Images.{low_byte, high_byte, is_there, stored_is_played, old_some, row_under}
 pub use Rattle.same_frames.proofs.Images.{wave_pointer_from, same_jump, jump_right, led_from, target_from, step_from}
 pub use Rattle.same_frames.proofs.Images.{no_jump_there, row_there}
+-- the same rows in other patterns
+pub use Rattle.same_frames.proofs.SameTraces.{same_rows_lem}
+pub use Rattle.same_frames.proofs.RowLists.{row_lists_lem}

@@ -20,6 +20,10 @@ pub mod Themselves
 -- Steps of voices, frames and traces.
 pub mod Steps
 pub mod Frames
+-- The same rows in other patterns.
+pub mod SameRows
+pub mod SameTraces
+pub mod RowLists
 -- Before an instrument is named: which one a voice begins with doesn't show.
 pub mod Runs
 pub mod Begun
@@ -37,3 +41,5 @@ pub mod Images
 pub mod WorkedMaps
 -- Small songs that begin with one instrument or another, computed.
 pub mod WorkedBegins
+-- A small song and its cut, computed.
+pub mod WorkedRows

@@ -24,13 +24,13 @@ map_replicate : {X Y : Type 0} (f : X → Y) (n : ℕ) (x : X) → map f (replic
 map_replicate f zero x = refl
 map_replicate f (suc n) x = ap (λ xs. f x ∷ xs) (map_replicate f n x)
 
-is_low : (byte : ℕ) → byte < 0xD0 → ltb byte 0xD0 ≡ true
+pub is_low : (byte : ℕ) → byte < 0xD0 → ltb byte 0xD0 ≡ true
 is_low byte h = lt-ltb byte 0xD0 h
 
-is_lower : (byte : ℕ) → byte < 0xD0 → ltb byte 0xE0 ≡ true
+pub is_lower : (byte : ℕ) → byte < 0xD0 → ltb byte 0xE0 ≡ true
 is_lower byte h = lt-ltb byte 0xE0 (omega arith)
 
-is_high : (byte : ℕ) → 0xD0 ≤ byte → ltb byte 0xD0 ≡ false
+pub is_high : (byte : ℕ) → 0xD0 ≤ byte → ltb byte 0xD0 ≡ false
 is_high byte h = grind (arith, nat_tests)
 
 module _ (maps : Maps) where

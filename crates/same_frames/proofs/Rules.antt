@@ -31,7 +31,7 @@ use Rattle.same_frames.proofs.Reading.{pulse_alike, filter_alike, wave_alike}
 
 -- ---- what the rules between two fetches don't change
 
-tick_holds : (channel : ℕ) (look : LookUps) (s : Playing) →
+pub tick_holds : (channel : ℕ) (look : LookUps) (s : Playing) →
     held_of (tick_step channel look s).playing.voice ≡ held_of s.voice
 tick_holds channel look s =
     ap (λ (t : Ticked). held_of t.playing.voice)

@@ -3,8 +3,11 @@
 ghost use Rattle.same_frames.specs.FrameLaws.{SongsAgreeWithThemselves, TracesOfSongs, RulesAreSame, FramesAreSame};
 ghost use Rattle.same_frames.specs.Begins.{FirstInstrumentsDoNotShow};
 ghost use Rattle.same_frames.specs.UseLaws.{UsesAreSame, NoOtherCase};
+ghost use Rattle.same_frames.specs.SameRows.{SameRowsPlayTheSame};
+ghost use Rattle.same_frames.specs.RowLists.{RowListsPlaySameRows};
 ghost use Rattle.same_frames.specs.OrderLaws.{MovedOrdersPlayFor, MovedSubtunesPlayFor};
 ghost use Rattle.same_frames.specs.WorkedMaps.{NumbersAreAsWorked};
+ghost use Rattle.same_frames.specs.WorkedRows.{CutsAreAsWorked};
 ghost use Rattle.same_frames.specs.WorkedBegins.{BeginningsAreAsWorked};
 
 /// Over look-ups that agree with a playable song up to new numbers, frames of states that are alike leave the same
@@ -36,6 +39,20 @@ pub fn traces_of_songs()
 #[tactic(auto, using(crate::proofs::BegunFrames::first_instruments_lem))]
 pub fn first_instruments_do_not_show()
     ensures { FirstInstrumentsDoNotShow }
+{}
+
+/// Orderlists that play the same rows with the same transposes, one behind the other for ever, leave the same registers
+/// after each call, whatever patterns hold these rows, where no option looks at the beginning of a pattern.
+#[tactic(auto, using(crate::proofs::SameTraces::same_rows_lem))]
+pub fn same_rows_play_the_same()
+    ensures { SameRowsPlayTheSame }
+{}
+
+/// Orderlists whose plays have the same rows with the same transposes, as lists, from the start to the end and from the
+/// restart position to the end, play the same rows for ever.
+#[tactic(auto, using(crate::proofs::RowLists::row_lists_lem))]
+pub fn row_lists_play_same_rows()
+    ensures { RowListsPlaySameRows }
 {}
 
 /// A frame over the other look-ups uses what the song's frame after a state that is alike uses.
@@ -71,4 +88,10 @@ pub fn worked_maps()
 #[tactic(auto, using(crate::proofs::WorkedBegins::beginnings_are_as_worked_lem))]
 pub fn worked_begins()
     ensures { BeginningsAreAsWorked }
+{}
+
+/// A small song and the same song with its pattern cut in two: their rows and frames, and what is refused.
+#[tactic(auto, using(crate::proofs::WorkedRows::cuts_are_as_worked_lem))]
+pub fn worked_cuts()
+    ensures { CutsAreAsWorked }
 {}
