@@ -26,7 +26,7 @@ leaves earlier call machine number k n last s = record {
   registers_are = s.registers k n last;
 }
 
-led_by : {image : List ℕ} {address : ℕ} {song : Song} {call : ImageCall} {StoodBefore : Machine → Type 0}
+pub led_by : {image : List ℕ} {address : ℕ} {song : Song} {call : ImageCall} {StoodBefore : Machine → Type 0}
     (before machine : Machine) (number steps : ℕ) (last : Machine) → StoodBefore before → IsMachine machine →
     AgreesOn image address before machine → IsMade song call number →
     Called machine (entry_of address call) number steps last →

@@ -2,6 +2,7 @@
 pub mod Laws
 mod Always
 mod FreeCalls
+mod SameSongs
 mod WorkedPlaces
 mod WorkedMachines
 mod LoadedCalls

@@ -2,6 +2,7 @@
 
 ghost use Rattle.faithful.specs.Laws.{AlwaysIsFaithful, OwnPlacesAreFew, CallsStoreAtHome, FirstPlaysAreFree};
 ghost use Rattle.faithful.specs.Laws.{InitsEndAlike, PlaysEndAlike};
+ghost use Rattle.faithful.specs.SamePlays.{SameSongsAreServed};
 ghost use Rattle.faithful.specs.WorkedPlaces.{PlacesAreWorked, CallsAreCounted};
 ghost use Rattle.faithful.specs.WorkedMachines.{TimersAreTold, ChangesAreTold, PairsAreTold};
 ghost use Rattle.faithful.specs.WorkedImages.{RightImagesPlay, OrderIsTold, RegistersAreTold, StepsAreTold};
@@ -31,6 +32,12 @@ pub fn first_plays_are_free()
 pub fn isolated_calls_end_alike()
     ensures inits { InitsEndAlike }
     ensures plays { PlaysEndAlike }
+{}
+
+/// What an image does for one song it does for each that plays the same.
+#[tactic(auto, using(crate::proofs::SameSongs::same_songs_lem))]
+pub fn same_songs_are_served()
+    ensures { SameSongsAreServed }
 {}
 
 /// Places that a call may write, and others; and what some calls came to.
