@@ -6,3 +6,5 @@ pub use Rattle.song_pack.proofs.MadeTables.{used_sets}
 pub use Rattle.song_pack.proofs.Sizes.{instruments_are_counted, size_is}
 -- all that a frame of a complete song looks up is stored
 pub use Rattle.song_pack.proofs.FoundRows.{complete_songs_find_all}
+-- a fault that is handed on has the cause that it had
+pub use Rattle.song_pack.proofs.HandedOn.{err_caused}
