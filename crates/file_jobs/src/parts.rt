@@ -39,7 +39,7 @@ pub fn tell_parts<'a, F: Folder, K: Sink>(
     let how = &options;
     let song = read_song(alloc, input, folder)?;
     let parts = parts_of(&song)?;
-    let packed = packed_song(alloc, &song, &parts)?;
+    let packed = packed_song(alloc, &song, &parts, how)?;
     let code = code_parts(alloc, asked(parts.features, &parts.facts), how)?;
     let costs = costs_by_kind(&packed, code.as_slice());
     let told = part_costs(alloc, &song, &parts, how, code.as_slice())?;

@@ -64,10 +64,10 @@ pub fn image_of(
     ensures address { IfOk result (λ image. image.place.address ≡ address) }
     ensures zero_page { IfOk result (λ image. image.place.zero_page ≡ zero_page) }
     ensures room { OnOk result ((song : Kept) (files : Files) (name : List ℕ) →
-        PacksSong packed.now song → HoldsSong files name song →
+        PacksSong options.now packed.now song → HoldsSong files name song →
         IsMet files (HasRoomForImage name address options.now)) }
     ensures refused { IfErr result (λ refusal. (song : Kept) (files : Files) (name : List ℕ) →
-        PacksSong packed.now song → HoldsSong files name song →
+        PacksSong options.now packed.now song → HoldsSong files name song →
         Refuses files (HasRoomForImage name address options.now) (last_of refusal)) }
 {
     let code = code_parts(alloc, asked_by(packed), options)?;
@@ -115,7 +115,7 @@ pub fn image_file(
 ///
 /// Out of memory.
 fn small_image(alloc: Global, song: &Song, packed: &PackedSong) -> Result<Image, NoMemory>
-    requires packs { PacksSong packed.now song.now }
+    requires packs { PacksSong no_options packed.now song.now }
     requires small { IsSmall song.now }
     ensures built { IfOk result (λ image. IsBuild packed.now image.place no_options image) }
     ensures address { IfOk result (λ image. image.place.address ≡ 0x1000) }

@@ -39,7 +39,7 @@ pub fn pack_song<'a, F: Folder>(
 {
     let song = read_song(alloc, input, folder)?;
     let parts = parts_of(&song)?;
-    let packed = packed_song(alloc, &song, &parts)?;
+    let packed = packed_song(alloc, &song, &parts, &options)?;
     let image = image_of(alloc, &packed, address, zero_page, &options)?;
     let file = image_file(alloc, psid, &song, &image, &options, chip)?;
     write_file(output, &file, folder)

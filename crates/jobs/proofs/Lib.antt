@@ -5,6 +5,7 @@ mod Answered
 mod RegisterLines
 mod Calls
 mod Chains
+mod Chosen
 mod Costs
 mod Due
 mod Ends

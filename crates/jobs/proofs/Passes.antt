@@ -31,7 +31,8 @@ use Rattle.packing_rules.proofs.Laws.{same_sets}
 use Rattle.song_pack.specs.Answers.{AreShort, IsTooLong}
 use Rattle.image_parts.specs.CodeParts.{code_length}
 use Rattle.song_costs.specs.CostLaws.{song_size}
-use Rattle.jobs.specs.Packed.{IsImageLength}
+use Rattle.cut_pack.proofs.Laws.{one_is_packed_lem}
+use Rattle.jobs.specs.Packed.{IsLengthOf, IsImageLength}
 use Rattle.jobs.specs.Laws.{PlayableSongsPass}
 use Rattle.gts5.proofs.Laws.{spells_once, spells_has_no_fault}
 use Rattle.song_join.specs.Refusals.{CanBeJoined, IsRefusedFor as IsNotJoined}
@@ -103,15 +104,21 @@ one_too_long song used p q m n one other =
     let count : m ≡ n = sym one.text ∙ ap (λ k. length (pattern_text song used k)) same ∙ other.text in
     ap (λ k. too_large_line k m ∷ []) same ∙ ap (λ k. too_large_line q k ∷ []) count
 
--- the image of a song has one length
-pub one_length : (song : Song) (o : Options) (m n : ℕ) → IsImageLength song o m → IsImageLength song o n → m ≡ n
-one_length song o m n p q =
+-- the image of a song has one length, packed as it is
+one_own_length : (song : Song) (o : Options) (m n : ℕ) → IsLengthOf song o m → IsLengthOf song o n → m ≡ n
+one_own_length song o m n p q =
     let used = same_sets song p.used q.used p.are_used q.are_used in
     let asked = one_asked song p.asked q.asked p.asks q.asks in
     let numbers = songs_have_one_range song p.numbers q.numbers p.are_numbers q.are_numbers in
     p.count_is ∙ ap (λ u. song_size song u p.asked p.numbers + code_length p.asked o) used
     ∙ ap (λ set. song_size song q.used set p.numbers + code_length set o) asked
     ∙ ap (λ range. song_size song q.used q.asked range + code_length q.asked o) numbers ∙ sym q.count_is
+
+-- and as it is packed
+pub one_length : (song : Song) (o : Options) (m n : ℕ) → IsImageLength song o m → IsImageLength song o n → m ≡ n
+one_length song o m n p q =
+    let chosen = one_is_packed_lem o song p.chosen q.chosen p.is_for q.is_for in
+    one_own_length q.chosen o m n (subst (λ s. IsLengthOf s o m) chosen p.length_is) q.length_is
 
 too_large_or_not : (end address m n : ℕ) → m ≡ n → address + m ≤ end → end < address + n → ⊥
 too_large_or_not end address m n same fits passes = omega arith

@@ -23,7 +23,8 @@ use Rattle.image_parts.specs.CodeParts.{code_length}
 use Rattle.image_parts.specs.Lengths.{slide_bytes, shared_bytes, unread_bytes, unlisted_bytes, frequency_bytes}
 use Rattle.song_costs.specs.Kinds.{instrument_count, subtune_count, read_data}
 use Rattle.image_parts.proofs.Laws.{code_is_bounded}
-use Rattle.jobs.specs.Packed.{IsImageLength}
+use Rattle.cut_pack.proofs.Laws.{chosen_no_longer_lem}
+use Rattle.jobs.specs.Packed.{IsLengthOf, IsImageLength}
 use Rattle.jobs.specs.Stages.{IsThere, Fits, SpellsSong, CanBePlayed, HasShortPatterns, HasRoomForImage, input_limit}
 use Rattle.jobs.specs.Stages.{Passes}
 use Rattle.jobs.specs.Laws.{ImagesAreBounded, OnlyLargeImagesAreRefused, HoldsSmallSong, SmallSongsArePacked}
@@ -53,7 +54,7 @@ few_speeds song used =
 
 -- so what stands alone for all instruments, the slides, the frequencies and the code together are within the player's
 -- bound
-player_is_bounded : (song : Song) (o : Options) (features : ℕ) {count : ℕ} (is : IsImageLength song o count) →
+player_is_bounded : (song : Song) (o : Options) (features : ℕ) {count : ℕ} (is : IsLengthOf song o count) →
     shared_bytes is.asked + slide_bytes is.asked (length (speed_rows song (is.used.pointers Speed)))
     + frequency_bytes is.numbers (read_data song is.used is.asked) + code_length is.asked o
     ≤ code_bound features o
@@ -66,19 +67,26 @@ adds : (most bound size shared slides frequencies code count : ℕ) → size ≤
     shared + slides + frequencies + code ≤ bound → count ≡ size + slides + frequencies + code → count ≤ most + bound
 adds most bound size shared slides frequencies code count p q is = omega (arith, p, q, is)
 
-pub images_are_bounded : ImagesAreBounded
-images_are_bounded song o used features count is are_used are_features =
-    subst (λ (u : UsedSets). count ≤ data_size song u + code_bound features o)
-    (same_sets song is.used used is.are_used are_used)
-    (adds (data_size song is.used) (code_bound features o) (read_data song is.used is.asked) (shared_bytes is.asked) _ _
+-- an image is no longer than that of a song with so many bytes of packed data
+own_image_is_bounded : (song : Song) (o : Options) (features most : ℕ) {count : ℕ} (is : IsLengthOf song o count) →
+    packed_size song is.used ≤ most → count ≤ most + code_bound features o
+own_image_is_bounded song o features most {count = count} is within =
+    adds most (code_bound features o) (read_data song is.used is.asked) (shared_bytes is.asked) _ _
     (code_length is.asked o) count
     (less (packed_size song is.used) (shared_bytes is.asked) (unread_bytes is.asked (instrument_count is.used))
-    (unlisted_bytes is.asked (subtune_count song)) (data_size song is.used) (packed_size_is_within song is.used))
-    (player_is_bounded song o features is) is.count_is)
+    (unlisted_bytes is.asked (subtune_count song)) most within)
+    (player_is_bounded song o features is) is.count_is
   where
     less : (size shared unread unlisted most : ℕ) → size ≤ most →
         size + shared - (unread + unlisted) ≤ most + shared
     less size shared unread unlisted most within = omega (arith, within)
+
+pub images_are_bounded : ImagesAreBounded
+images_are_bounded song o used features count is are_used are_features =
+    let size =
+    chosen_no_longer_lem o song is.chosen used is.length_is.used is.is_for are_used is.length_is.are_used in
+    let within = packed_size_is_within song used in
+    own_image_is_bounded is.chosen o features (data_size song used) is.length_is (omega (arith, size, within))
 
 pub only_large_images : OnlyLargeImagesAreRefused
 only_large_images files name address o lines song used features ends holds are_used are_features =

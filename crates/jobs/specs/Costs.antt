@@ -5,6 +5,7 @@ use Rattle.play_model.specs.declared.options.Options.{Options}
 use Rattle.asked_numbers.specs.declared.range.NumberRange.{NumberRange}
 use Rattle.asked_numbers.specs.Range.{IsNumberRange}
 use Rattle.packing_rules.specs.UsedSets.{UsedSets, AreUsedSets}
+use Rattle.cut_pack.specs.Chosen.{IsPackedFor}
 use Rattle.kept_lines.specs.Asked.{Asks}
 use Rattle.song_costs.specs.declared.costs.Costs.{Costs}
 use Rattle.song_places.specs.declared.places.Place.{Place}
@@ -59,14 +60,17 @@ part_line cost = cost_line cost.part cost.bytes (cause_words cost.cause)
 
 -- ---- the whole
 
--- of a song, played with these options
+-- of a song, played with these options: the bytes of each kind are those of the song that is packed for it, and the places
+-- that want the player's parts are those of the song itself
 pub record TellCosts (song : Song) (options : Options) (lines : List (List ℕ)) : Type 0 where
+  pub chosen : Song
+  pub is_for : IsPackedFor options song chosen
   pub used : UsedSets
-  pub are_used : AreUsedSets song used
+  pub are_used : AreUsedSets chosen used
   pub asked : ℕ
-  pub asks : Asks song asked
+  pub asks : Asks chosen asked
   pub numbers : NumberRange
-  pub are_numbers : IsNumberRange song numbers
+  pub are_numbers : IsNumberRange chosen numbers
   pub parts : List PartCost
   pub are_parts : AreKeptParts song asked options parts
-  pub lines_are : lines ≡ kind_lines (costs_of song used asked numbers options) ++ map part_line parts
+  pub lines_are : lines ≡ kind_lines (costs_of chosen used asked numbers options) ++ map part_line parts

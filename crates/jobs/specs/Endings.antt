@@ -2,15 +2,12 @@
 use Rattle.std.specs.Prelude.{◌≡◌, ◌≢◌, ℕ, ◌+◌, ◌≤◌, List, [], ◌∷◌, ◌++◌, Some, length, take}
 use Rattle.std.specs.List.{concat}
 use Rattle.goat_io.specs.Files.{Files, file_of, told_with_file, IsAbsent, IsAbove, IsWrittenInPart}
-use Rattle.song_model.specs.declared.tables.TableName.TheVariants.{Speed}
 use Rattle.song_model.specs.declared.songs.Song.{Song}
 use Rattle.packed_form.specs.declared.packed_songs.PackedSong.{PackedSong}
-use Rattle.packed_form.specs.Sizes.{packed_song_size}
-use Rattle.packing_rules.specs.UsedSets.{UsedSets, AreUsedSets}
-use Rattle.packing_rules.specs.Renumbering.{speed_rows}
-use Rattle.packing_rules.specs.SongSizes.{packed_size}
-use Rattle.song_costs.specs.Kinds.{instrument_count}
-use Rattle.packed_form.specs.StandsFor.{StandsFor}
+use Rattle.play_model.specs.declared.options.Options.{Options}
+use Rattle.cut_pack.specs.Chosen.{IsPackedFor}
+use Rattle.cut_pack.specs.ChosenLaws.{Serves}
+use Rattle.cut_pack.specs.Answers.{IsPackedOf}
 use Rattle.gts5.specs.Spells.{Spells}
 use Rattle.edit_script.specs.Edited.{FailsAt}
 use Rattle.cpu6502.specs.declared.machine.Machine.{Machine}
@@ -90,15 +87,13 @@ pub data EditFails (text : List ℕ) (song : Song) (last : Last) : Type 0 where
       EditFails text song last
   wanting : last ≡ Wants → EditFails text song last
 
--- a packed song stands for a song, and has the bytes of the song's packed data, and as many instruments and rows of the
--- speed table
-pub record PacksSong (packed : PackedSong) (song : Song) : Type 0 where
-  pub stands : StandsFor packed song
-  pub used : UsedSets
-  pub are_used : AreUsedSets song used
-  pub size : packed_song_size packed ≡ packed_size song used
-  pub instruments : length packed.instruments ≡ instrument_count used
-  pub speeds : length packed.speed ≡ length (speed_rows song (used.pointers Speed))
+-- a packed song stands for the song that is packed for this one, which plays the same and asks for the same, is the one
+-- that is defined, and has the bytes of that song's packed data
+pub record PacksSong (options : Options) (packed : PackedSong) (song : Song) : Type 0 where
+  pub chosen : Song
+  pub is_for : IsPackedFor options song chosen
+  pub serves : Serves options song chosen
+  pub is : IsPackedOf packed chosen
 
 -- a file was written, or not
 pub data WriteEnds (name bytes : List ℕ) (before after : FolderState) (last : Last) : Type 0 where

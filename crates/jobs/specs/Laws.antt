@@ -126,7 +126,7 @@ CostsAreTheImages =
     (song : Song) (options : Options) (lines : List (List ℕ)) (psid : Bool) (address zero_page : ℕ) (chip : Chip)
     (file : List ℕ) → (told : TellCosts song options lines) →
     (written : IsWrittenFile psid address zero_page song options chip file) →
-    length written.packed.image ≡ all_bytes (costs_of song told.used told.asked told.numbers options)
+    length written.packed.image ≡ all_bytes (costs_of told.chosen told.used told.asked told.numbers options)
 
 -- ---- packed files
 

@@ -15,6 +15,7 @@ use Rattle.packing_rules.specs.Renumbering.{speed_rows}
 use Rattle.kept_lines.specs.Asked.{Asks}
 use Rattle.image_parts.specs.CodeParts.{code_length}
 use Rattle.image_parts.specs.Lengths.{slide_bytes, frequency_bytes}
+use Rattle.cut_pack.specs.Chosen.{IsPackedFor}
 use Rattle.song_costs.specs.Kinds.{read_data}
 use Rattle.command_line.specs.declared.chip.Chip.{Chip}
 use Rattle.command_line.specs.declared.chip.Chip.TheVariants.{Mos6581, Mos8580}
@@ -79,10 +80,11 @@ pub record IsPackedFile (psid : Bool) (address zero_page : ℕ) (song : Song) (o
   pub below : address + length image ≤ 0xD000
   pub faithful : IsFaithful image address zero_page song options
 
--- how many bytes the image of a song has: those that are read of its packed data, with those that stand for all of its
--- instruments, those of the slides and periods of calculated speeds, those of the frequencies of the numbers that it asks
--- for, with the gap in front of them, and those of the player's parts that its features, its facts and the options want
-pub record IsImageLength (song : Song) (options : Options) (count : ℕ) : Type 0 where
+-- how many bytes the image of a song has that is packed as it is: those that are read of its packed data, with those that
+-- stand for all of its instruments, those of the slides and periods of calculated speeds, those of the frequencies of the
+-- numbers that it asks for, with the gap in front of them, and those of the player's parts that its features, its facts
+-- and the options want
+pub record IsLengthOf (song : Song) (options : Options) (count : ℕ) : Type 0 where
   pub used : UsedSets
   pub asked : ℕ
   pub numbers : NumberRange
@@ -92,6 +94,12 @@ pub record IsImageLength (song : Song) (options : Options) (count : ℕ) : Type 
   pub count_is : count
       ≡ read_data song used asked + slide_bytes asked (length (speed_rows song (used.pointers Speed)))
       + frequency_bytes numbers (read_data song used asked) + code_length asked options
+
+-- and how many the image of any song has: those of the song that is packed for it
+pub record IsImageLength (song : Song) (options : Options) (count : ℕ) : Type 0 where
+  pub chosen : Song
+  pub is_for : IsPackedFor options song chosen
+  pub length_is : IsLengthOf chosen options count
 
 -- a file that `pack` writes: a packed file, of an image that is as long as that, and that plays the song after any calls,
 -- from the first init on each by the image's bytes alone

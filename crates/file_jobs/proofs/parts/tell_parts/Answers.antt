@@ -1,11 +1,10 @@
-use Rattle.std.proofs.Common.{refl, sym, ap, ◌∙◌, ◌++◌, map}
+use Rattle.std.proofs.Common.{refl, sym, ap, ◌∙◌, ◌++◌, map, subst}
 use Rattle.std.proofs.lemmas.Result.{err_from_is_err_and}
-use Rattle.song_pack.specs.Numbers.{sets_of}
-use Rattle.song_pack.proofs.Laws.{used_sets}
 use Rattle.kept_lines.specs.Asked.{asked, asked_by, Asks}
 use Rattle.image_parts.specs.CodeParts.{code_parts}
-use Rattle.song_costs.specs.Kinds.{costs_of}
+use Rattle.song_costs.specs.Kept.{AreKeptParts}
 use Rattle.song_costs.proofs.Laws.{few_bytes}
+use Rattle.cut_pack.proofs.Laws.{features_of, facts_of}
 use Rattle.jobs.specs.Costs.{TellCosts, kind_lines, part_line}
 use Rattle.jobs.proofs.Laws.{song_begun, song_fails, song_held, met_next, refused, wants_first, lines_over, one_asked}
 use Rattle.file_jobs.proofs.parts.tell_parts.Goals as goal
@@ -56,8 +55,8 @@ returns g c =
     let song = c.in_ok-song.song in
     let holds = song_held read in
     let parts = c.in_ok-parts.parts in
-    let used = used_sets song parts c.in_ok-parts.ensures.parts in
-    let packed = c.in_ok-packed.ensures.exact (sets_of parts) used holds.spells.limits in
+    let packs = c.in_ok-packed.ensures.packs in
+    let packed = c.in_ok-packed.packed in
     let asks : Asks song (asked parts.features.0 parts.facts) = record {
       features = parts.features.0;
       facts = parts.facts;
@@ -65,29 +64,38 @@ returns g c =
       are_facts = c.in_ok-parts.ensures.parts.facts;
       is = refl;
     } in
-    let as_packed : Asks song (asked_by c.in_ok-packed.packed) = record {
-      features = c.in_ok-packed.packed.features.0;
-      facts = c.in_ok-packed.packed.facts;
-      are_features = packed.features;
-      are_facts = packed.facts;
+    let as_packed : Asks song (asked_by packed) = record {
+      features = packed.features.0;
+      facts = packed.facts;
+      are_features = features_of song packs.chosen packed.features.0 packs.serves.asks packs.is.exact.features;
+      are_facts = facts_of song packs.chosen packed.facts packs.serves.asks packs.is.exact.facts;
       is = refl;
     } in
     let same = one_asked song _ _ as_packed asks in
     let code = c.as_slice.ensures ∙ c.in_ok-code.ensures
     ∙ ap (λ set. code_parts set c.args.options) (c.asked.ensures ∙ sym same) in
-    let costs = c.costs_by_kind-costs.ensures.exact song (sets_of parts) c.args.options used packed code
-    ∙ ap (λ set. costs_of song (sets_of parts) set c.in_ok-packed.packed.numbers c.args.options) same in
     let told : TellCosts song c.args.options (kind_lines c.costs_by_kind-costs.result ++ map part_line c.in_ok-told.told.items) =
     record {
-      used = sets_of parts;
-      are_used = used;
-      asked = asked parts.features.0 parts.facts;
-      asks = asks;
-      numbers = c.in_ok-packed.packed.numbers;
-      are_numbers = packed.numbers;
+      chosen = packs.chosen;
+      is_for = packs.is_for;
+      used = packs.is.used;
+      are_used = packs.is.are_used;
+      asked = asked_by packed;
+      asks = record {
+        features = packed.features.0;
+        facts = packed.facts;
+        are_features = packs.is.exact.features;
+        are_facts = packs.is.exact.facts;
+        is = refl;
+      };
+      numbers = packed.numbers;
+      are_numbers = packs.is.exact.numbers;
       parts = c.in_ok-told.told.items;
-      are_parts = c.in_ok-told.ensures.kept;
-      lines_are = ap (λ k. kind_lines k ++ map part_line c.in_ok-told.told.items) costs;
+      are_parts = subst (λ set. AreKeptParts song set c.args.options c.in_ok-told.told.items) (sym same)
+          c.in_ok-told.ensures.kept;
+      lines_are = ap (λ k. kind_lines k ++ map part_line c.in_ok-told.told.items)
+          (c.costs_by_kind-costs.ensures.exact packs.chosen packs.is.used c.args.options packs.is.are_used packs.is.exact
+          code);
     } in
     let short = c.in_ok-packed.ensures.short read.was.files c.args.input.now holds in
     lines_over (met_next (met_next (song_begun refl read) (song, holds, c.in_ok-parts.ensures.playable)) short)

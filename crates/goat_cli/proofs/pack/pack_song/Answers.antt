@@ -33,7 +33,7 @@ returns-in_err-image g c =
     let song = c.in_ok-song.song in
     let holds = song_held read in
     let p = err_from_is_err_and c.from_residual-in_err-image.result c.from_residual-in_err-image.ensures.1 in
-    let packs = c.in_ok-packed.ensures.packs holds.spells.limits in
+    let packs = c.in_ok-packed.ensures.packs in
     let refuses = c.in_err-image.ensures.refused song read.was.files c.args.input.now packs holds in
     rw (p.1, p.2)
     (λ sink.
@@ -55,7 +55,7 @@ returns g c = λ sink.
     let read = c.in_ok-song.ensures.read in
     let song = c.in_ok-song.song in
     let holds = song_held read in
-    let packs = c.in_ok-packed.ensures.packs holds.spells.limits in
+    let packs = c.in_ok-packed.ensures.packs in
     let image = c.in_ok-image.ensures in
     let at =
     met_next

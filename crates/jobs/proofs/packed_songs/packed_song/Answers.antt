@@ -1,25 +1,15 @@
-use Rattle.std.proofs.Common.{refl, subst, ap, length}
+use Rattle.std.proofs.Common.{refl, subst}
 use Rattle.song_pack.specs.Answers.{IsCause}
 use Rattle.song_pack.specs.Numbers.{sets_of}
 use Rattle.song_pack.proofs.Laws.{used_sets}
-use Rattle.song_costs.proofs.Laws.{instruments_are}
 use Rattle.jobs.specs.Lines.{too_large_line}
 use Rattle.jobs.specs.Endings as ends
+use Rattle.jobs.proofs.Chosen.{packs_song}
 use Rattle.jobs.proofs.packed_songs.packed_song.Goals as goal
 
 pub returns-in-Ok-clause-packs : goal.returns-in-Ok-clause-packs
-returns-in-Ok-clause-packs c = λ keeps.
-    let used = used_sets c.args.song.now c.args.parts.now c.requires.parts in
-    record {
-      stands = c.in-Ok.ensures.stands keeps;
-      used = sets_of c.args.parts.now;
-      are_used = used;
-      size = (c.in-Ok.ensures.size (sets_of c.args.parts.now) used keeps).is;
-      instruments =
-          instruments_are c.args.song.now (sets_of c.args.parts.now) _ used
-          (c.in-Ok.ensures.exact (sets_of c.args.parts.now) used keeps);
-      speeds = ap length (c.in-Ok.ensures.exact (sets_of c.args.parts.now) used keeps).speed.rows_are;
-    }
+returns-in-Ok-clause-packs c =
+    packs_song c.args.options.now c.args.song.now c.in-Ok.packed c.requires.limits c.requires.playable c.in-Ok.ensures.packs
 
 pub returns-in-Ok-clause-short : goal.returns-in-Ok-clause-short
 returns-in-Ok-clause-short c = λ files name holds.
@@ -28,7 +18,7 @@ returns-in-Ok-clause-short c = λ files name holds.
       sets_of c.args.parts.now,
       holds,
       used,
-      c.in-Ok.ensures.short (sets_of c.args.parts.now) used holds.spells.limits,
+      c.in-Ok.ensures.short (sets_of c.args.parts.now) used,
     )
 
 pub returns-in-Err-PatternTooLong-clause-refused : goal.returns-in-Err-PatternTooLong-clause-refused
@@ -44,7 +34,7 @@ returns-in-Err-PatternTooLong-clause-refused c = λ files name holds.
       holds,
       used,
       subst (IsCause c.args.song.now (sets_of c.args.parts.now)) c.in-Err-PatternTooLong.field-0-is
-          (c.in-Err-PatternTooLong.ensures.fault (sets_of c.args.parts.now) used holds.spells.limits),
+          (c.in-Err-PatternTooLong.ensures.fault (sets_of c.args.parts.now) used),
       refl,
     )
     c.too_large_pattern.ensures
