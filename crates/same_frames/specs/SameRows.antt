@@ -37,13 +37,17 @@ abbrev pub place_of_row : LookUps → Order → ℕ → Place
 place_of_row look order zero = record { plays = 0; row = 0 }
 place_of_row look order (suc n) = next_place look order (place_of_row look order n)
 
+-- row n itself
+abbrev pub row_of_all : LookUps → Order → ℕ → Row
+row_of_all look order n = row_there look order (place_of_row look order n)
+
 -- each pattern that the orderlist plays has 1 to 128 rows
 abbrev pub HasPatternLengths : LookUps → Order → Type 0
 HasPatternLengths look order = (i : ℕ) → IsPatternLength (length (rows_of_play look order i))
 
 -- the other orderlist plays the same rows, each with the same transpose, one behind the other for ever
 pub record PlaysSameRows (look other : LookUps) (order beyond : Order) : Type 0 where
-  pub row : (n : ℕ) → row_there other beyond (place_of_row other beyond n) ≡ row_there look order (place_of_row look order n)
+  pub row : (n : ℕ) → row_of_all other beyond n ≡ row_of_all look order n
   pub transpose : (n : ℕ) → (played beyond (place_of_row other beyond n).plays).transpose
       ≡ (played order (place_of_row look order n).plays).transpose
   pub lengths : HasPatternLengths look order
