@@ -27,7 +27,7 @@ use Rattle.pattern_cut.specs.declared.lengths.PieceLength.{PieceLength}
 use Rattle.pattern_cut.specs.declared.lengths.PieceLength.TheVariants.{Whole, Rows64, Rows32, Rows16, Rows8}
 use Rattle.pattern_cut.specs.Choice.{lighter, lightest, cut_weight, short_lengths, settled, settled_from, chosen_ways}
 use Rattle.pattern_cut.specs.Choice.{all_orders, fits, pattern_weight, too_heavy, weight, cut_song}
-use Rattle.pattern_cut.specs.CutLaws.{ChosenCutsFit}
+use Rattle.pattern_cut.specs.CutLaws.{ChosenCutsFit, ChosenWaysWeighNoMore}
 use Rattle.pattern_cut.specs.Cuts.{in_pieces, cut_order}
 use Rattle.pattern_cut.specs.Pieces.{rows_of, slice, slices, orders_of, played_orders, is_named, named, is_repeated}
 use Rattle.pattern_cut.specs.CutSongs.{Ways, pieces_of, same_rows, all_pieces, piece_numbers, cut_subtune, cut_with}
@@ -96,12 +96,25 @@ all_settled_lighter song (n ∷ ns) ways =
     let rest = all_settled_lighter song ns (settled song ways n) in
     omega (arith, first, rest)
 
-pub chosen_lighter : (song : Song) → cut_weight song (chosen_ways song) ≤ cut_weight song (replicate MOST_PATTERNS Whole)
-unfolding chosen_ways settled_from
-chosen_lighter song =
-    let first = lightest_first (cut_weight song) (settled_from song Whole) (map (settled_from song) short_lengths) in
-    let settled_whole = all_settled_lighter song (named song) (replicate MOST_PATTERNS Whole) in
-    omega (arith, first, settled_whole)
+-- the choice is no heavier than what comes of each length, and that is no heavier than where it began
+chosen_lighter : (song : Song) (l : PieceLength) →
+    cut_weight song (chosen_ways song) ≤ cut_weight song (settled_from song l)
+unfolding chosen_ways
+chosen_lighter song l = elim (a_length l) [
+  | inl whole ↦
+      subst (λ k. cut_weight song (chosen_ways song) ≤ cut_weight song (settled_from song k)) (sym whole)
+      (lightest_first (cut_weight song) (settled_from song Whole) (map (settled_from song) short_lengths))
+  | inr short ↦
+      lightest_each (cut_weight song) (settled_from song Whole) (map (settled_from song) short_lengths)
+      (settled_from song l) (contains_map (settled_from song) short_lengths l short)
+]
+
+pub chosen_ways_weigh_no_more_lem : ChosenWaysWeighNoMore
+unfolding settled_from
+chosen_ways_weigh_no_more_lem song l =
+    let first = chosen_lighter song l in
+    let rest = all_settled_lighter song (named song) (replicate MOST_PATTERNS l) in
+    omega (arith, first, rest)
 
 -- ---- whole patterns
 
@@ -250,5 +263,5 @@ chosen_cuts_fit_lem song limits playable = by_fit (fits (cut_with song (chosen_w
     by_fit false e =
         let heavy_is = heavy (cut_with song (chosen_ways song)) e in
         let light = whole_light song limits playable in
-        let chosen = chosen_lighter song in
+        let chosen = chosen_ways_weigh_no_more_lem song Whole in
         absurd (omega (arith, heavy_is, light, chosen))

@@ -17,7 +17,7 @@ use Rattle.song_model.specs.Walk.{prefix_of, cycle_of}
 use Rattle.play_model.specs.LookUps.{LookUps}
 use Rattle.same_frames.proofs.Laws.{is_low, is_lower, is_high}
 use Rattle.same_frames.specs.RowLists.{PlayedRow, rows_of_step, rows_of_steps}
-use Rattle.pattern_cut.specs.Cuts.{ArePieces, in_pieces, cut_order, RepeatsWhole, CutOrdersPlaySameRows}
+use Rattle.pattern_cut.specs.Cuts.{ArePieces, in_pieces, cut_order, RepeatsWhole, CutOrdersHaveSameRowLists}
 
 abbrev play : ℤ → ℕ → Step
 play t n = record { pattern = n; transpose = t }
@@ -203,7 +203,7 @@ module _ (look other : LookUps) (pieces : ℕ → List ℕ) where
       ∙ ap (drop (length (cut first))) (flat_map-append (in_pieces pieces) first rest)
       ∙ drop-append_seam (cut first) (cut rest)
 
-pub cut_orders_lem : CutOrdersPlaySameRows
+pub cut_orders_lem : CutOrdersHaveSameRowLists
 unfolding prefix_of cycle_of
 cut_orders_lem look other pieces order h = record {
   prefix = walk_same look other pieces order.entries (pos 0) 0 h.pieces_of h.prefix;

@@ -64,7 +64,9 @@ unfolding pieces_of
 pieces_are song ways n is = by_repeat (is_repeated song n) refl
   where
     by_repeat : (b : Bool) → is_repeated song n ≡ b → All IsPattern (pieces_of song ways n)
-    by_repeat true e = rw e (each_item IsPattern (pattern_at song n ∷ []) (λ rows has. subst IsPattern (only (pattern_at song n) rows has) is))
+    by_repeat true e =
+        rw e (each_item IsPattern (pattern_at song n ∷ [])
+        (λ rows has. subst IsPattern (only (pattern_at song n) rows has) is))
     by_repeat false e = rw e (slices_are _ (pattern_at song n) is.each)
 
 -- ---- numbers

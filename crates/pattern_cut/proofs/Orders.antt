@@ -108,7 +108,8 @@ module _ (song : Song) (ways : Ways) (c : Cut song ways) where
   pub are_pieces_there : (order : Order) (n : ℕ) → Contains (played_orders song) order → Contains order.entries n →
       IsPatternByte n → ArePieces (look_ups_of song) (look_ups_of cut) n (numbers n)
   are_pieces_there order n played has low =
-      are_pieces song ways n (named_there song order n played has low) (stored song c.limits c.playable order n (record { played = played; entry = has; low = low })) c.few
+      are_pieces song ways n (named_there song order n played has low)
+      (stored song c.limits c.playable order n (record { played = played; entry = has; low = low })) c.few
 
   is_cut : (order : Order) → Contains (played_orders song) order →
       IsCutFor (look_ups_of song) (look_ups_of cut) numbers order

@@ -141,12 +141,15 @@ module _ (song : Song) (ways : Ways) (c : Cut song ways) where
     };
   }
 
-  uses : UsesNoMore song cut
+  pub uses : UsesNoMore song cut
   uses = no_rows_lem song cut adds_no_row
+
+  pub uses_all : UsesNoMore cut song
+  uses_all = no_rows_lem cut song loses_no_row
 
   pub asks_same : AsksSame song cut
   asks_same =
-      let back = no_rows_lem cut song loses_no_row in
+      let back = uses_all in
       record {
         features = λ feature. (uses.features feature, back.features feature);
         facts = λ fact. (uses.facts fact, back.facts fact);

@@ -8,7 +8,7 @@ use Rattle.pattern_cut.specs.Choice.{weight, settled, settled_from, chosen_ways,
 use Rattle.pattern_cut.specs.WorkedChoice.{FitsAreAsWorked, PatternWeightsAreAsWorked, WeightsAreAsWorked}
 use Rattle.pattern_cut.specs.WorkedChoice.{LightestAreAsWorked, SettledAreAsWorked, ChosenAreAsWorked}
 use Rattle.pattern_cut.specs.WorkedChoice.{OneAfterTheOther, CutSongsAreAsWorked, StartsAreAsWorked, ChoiceIsGreedy}
-use Rattle.pattern_cut.specs.WorkedChoice.{PatternChoicesAreAsWorked}
+use Rattle.pattern_cut.specs.WorkedChoice.{GrownStartsAreAsWorked, PatternChoicesAreAsWorked}
 
 fits_worked : FitsAreAsWorked
 fits_worked = record {
@@ -89,6 +89,11 @@ unfolding packed_text is_named named is_repeated pieces_of all_pieces piece_numb
     settled_from chosen_ways
 greedy = record { chosen = refl; lighter = refl }
 
+grown_worked : GrownStartsAreAsWorked
+unfolding packed_text is_named named is_repeated pieces_of all_pieces piece_numbers cut_with pattern_at weight settled
+    settled_from
+grown_worked = record { all = refl; first = refl; first_whole = refl; from_eight = refl; from_whole = refl }
+
 pub pattern_choices_are_as_worked_lem : PatternChoicesAreAsWorked
 pattern_choices_are_as_worked_lem = record {
   fitting = fits_worked;
@@ -101,4 +106,5 @@ pattern_choices_are_as_worked_lem = record {
   songs = songs_worked;
   starts = starts_worked;
   greedy = greedy;
+  grown = grown_worked;
 }

@@ -1,4 +1,4 @@
--- Patterns in pieces: the orderlist that names them, and claimed: that it plays the same rows.
+-- Patterns in pieces: the orderlist that names them, and claimed: that it has the same rows, as lists.
 use Rattle.std.specs.Prelude.{◌≡◌, ℕ, ◌<◌, List, [], ◌∷◌, length, take, drop, All, if◌then◌else◌, nat_lt}
 use Rattle.std.specs.List.{flat_map}
 use Rattle.song_model.specs.declared.orders.Order.{Order}
@@ -36,7 +36,8 @@ pub record IsCutFor (look other : LookUps) (pieces : ℕ → List ℕ) (order : 
   pub prefix : RepeatsWhole pieces order.entries 0
   pub cycle : RepeatsWhole pieces (drop order.restart order.entries) (end_repeat order.entries 0)
 
-abbrev pub CutOrdersPlaySameRows : Type 0
-CutOrdersPlaySameRows =
+-- the entries before the restart position have the same rows, and those from it on
+abbrev pub CutOrdersHaveSameRowLists : Type 0
+CutOrdersHaveSameRowLists =
     (look other : LookUps) (pieces : ℕ → List ℕ) (order : Order) → IsCutFor look other pieces order →
     HasSameRowLists look other order (cut_order pieces order)

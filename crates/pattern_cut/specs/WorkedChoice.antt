@@ -181,6 +181,21 @@ pub record ChoiceIsGreedy : Type 0 where
   pub chosen : cut_weight both_turned (chosen_ways both_turned) ≡ 44
   pub lighter : cut_weight both_turned (Whole ∷ Rows8 ∷ Rows8 ∷ Rows16 ∷ Rows16 ∷ []) ≡ 42
 
+-- 128 entries, which are 256 where all their patterns, each of two equal bars, are cut
+abbrev pub grown_song : Song
+grown_song = voiced (1 ∷ 3 ∷ replicate 126 2)
+    (two_bars ∷ flat_map bar (0x92 ∷ 0x92 ∷ []) ∷ flat_map bar (0x94 ∷ 0x94 ∷ []) ∷ [])
+
+-- Where no length for a pattern makes the song fit, the pattern becomes whole, the lowest number first: pattern 1, and
+-- then the orderlist still has 255 entries. With pattern 2 whole the song fits, and from there on a pattern stays cut
+-- where that is lighter, as pattern 3; from whole patterns on pattern 1 is cut, too.
+pub record GrownStartsAreAsWorked : Type 0 where
+  pub all : cut_weight grown_song (replicate 208 Rows8) ≡ 0x100000
+  pub first : settled grown_song (replicate 208 Rows8) 1 ≡ Rows8 ∷ Whole ∷ replicate 206 Rows8
+  pub first_whole : cut_weight grown_song (Rows8 ∷ Whole ∷ replicate 206 Rows8) ≡ 0x100000
+  pub from_eight : settled_from grown_song Rows8 ≡ Whole ∷ Whole ∷ Whole ∷ replicate 205 Rows8
+  pub from_whole : settled_from grown_song Whole ≡ Whole ∷ Rows8 ∷ Whole ∷ Rows8 ∷ replicate 204 Whole
+
 pub record PatternChoicesAreAsWorked : Type 0 where
   pub fitting : FitsAreAsWorked
   pub patterns : PatternWeightsAreAsWorked
@@ -192,3 +207,4 @@ pub record PatternChoicesAreAsWorked : Type 0 where
   pub songs : CutSongsAreAsWorked
   pub starts : StartsAreAsWorked
   pub greedy : ChoiceIsGreedy
+  pub grown : GrownStartsAreAsWorked

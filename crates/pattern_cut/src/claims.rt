@@ -1,15 +1,15 @@
 //! Facts about the definitions, each the contract of a function that does nothing.
 
-ghost use Rattle.pattern_cut.specs.Cuts.{CutOrdersPlaySameRows};
-ghost use Rattle.pattern_cut.specs.CutLaws.{CutSongsStandIn, ChosenCutsFit};
+ghost use Rattle.pattern_cut.specs.Cuts.{CutOrdersHaveSameRowLists};
+ghost use Rattle.pattern_cut.specs.CutLaws.{CutSongsStandIn, ChosenCutsFit, ChosenWaysWeighNoMore};
 ghost use Rattle.pattern_cut.specs.WorkedCuts.{PatternCutsAreAsWorked};
 ghost use Rattle.pattern_cut.specs.WorkedPieces.{PatternPiecesAreAsWorked};
 ghost use Rattle.pattern_cut.specs.WorkedChoice.{PatternChoicesAreAsWorked};
 ghost use Rattle.pattern_cut.specs.WorkedStandIns.{PatternStandInsAreAsWorked};
 
-/// An orderlist that names the pieces of its patterns plays the same rows.
-pub fn cut_orders_play_same_rows()
-    ensures { CutOrdersPlaySameRows }
+/// An orderlist that names the pieces of its patterns has the same rows with the same transposes, as lists.
+pub fn cut_orders_have_same_row_lists()
+    ensures { CutOrdersHaveSameRowLists }
 {}
 
 /// A song whose patterns are cut can be played, plays the same, and asks for the same.
@@ -21,6 +21,11 @@ pub fn cut_songs_stand_in()
 #[tactic(auto, using(crate::proofs::Choices::chosen_cuts_fit_lem))]
 pub fn chosen_cuts_fit()
     ensures { ChosenCutsFit }
+{}
+
+/// With them the song weighs no more than in pieces of any one length.
+pub fn chosen_ways_weigh_no_more()
+    ensures { ChosenWaysWeighNoMore }
 {}
 
 /// Small orderlists whose patterns are in pieces, and what isn't cut.

@@ -1,5 +1,5 @@
 use Rattle.pattern_cut.proofs.Cuts.{cut_orders_lem}
-use Rattle.pattern_cut.proofs.claims.cut_orders_play_same_rows.Goals as goal
+use Rattle.pattern_cut.proofs.claims.cut_orders_have_same_row_lists.Goals as goal
 
 -- src/claims.rt:6:1
 pub returns : goal.returns
