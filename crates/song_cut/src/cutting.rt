@@ -241,8 +241,8 @@ fn cut_with(alloc: Global, song: &Song, table: &PieceTable, ways: &Ways) -> Resu
 }
 
 /// The song with its patterns cut into pieces, of which equal ones are stored once. How long the pieces of a pattern
-/// are is chosen pattern by pattern, by the bytes of orderlists and patterns. Its work is that of at most 5,200 tries,
-/// each linear in the bytes of the orderlists.
+/// are is chosen pattern by pattern, by the bytes of orderlists and patterns. For that it weighs at most 5,205 songs, for
+/// each of which it walks along the orderlists and the pieces.
 ///
 /// # Errors
 ///
