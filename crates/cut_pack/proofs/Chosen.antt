@@ -24,7 +24,7 @@ cut_serves o song limits playable kept =
     let stands = cut_stands_in song limits playable in
     record { limits = stands.limits; playable = stands.playable; plays = stands.plays o kept; asks = stands.asks }
 
-itself_serves : (o : Options) (song : Song) → KeepsLimits song → IsPlayable song → Serves o song song
+pub itself_serves : (o : Options) (song : Song) → KeepsLimits song → IsPlayable song → Serves o song song
 itself_serves o song limits playable = record {
   limits = limits;
   playable = playable;
@@ -43,7 +43,7 @@ chosen_serves_lem o song chosen limits playable (as_it_is is longer) =
     subst (Serves o song) (sym is) (itself_serves o song limits playable)
 
 -- a song has one packed size
-one_size : (song : Song) (used other : UsedSets) → AreUsedSets song used → AreUsedSets song other →
+pub one_size : (song : Song) (used other : UsedSets) → AreUsedSets song used → AreUsedSets song other →
     packed_size song used ≡ packed_size song other
 one_size song used other is is_too = ap (packed_size song) (same_sets song used other is is_too)
 

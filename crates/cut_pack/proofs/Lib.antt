@@ -5,3 +5,6 @@ pub mod Chosen
 pub mod Asked
 -- What packing answers.
 pub mod Packed
+-- What small songs use, and what is packed for them.
+pub mod WorkedSets
+pub mod WorkedChosen

@@ -48,8 +48,8 @@ pub itself : (o : Options) (song : Song) (packed : PackedSong) → IsPackedOf pa
 itself o song packed is longer = record { chosen = song; is_for = as_it_is refl longer; is = is }
 
 -- the size of a packed song is the packed size of its song, with whatever sets
-one_size : (song : Song) (packed : PackedSong) (is : IsPackedOf packed song) (used : UsedSets) → AreUsedSets song used →
-    packed_song_size packed ≡ packed_size song used
+pub one_size : (song : Song) (packed : PackedSong) (is : IsPackedOf packed song) (used : UsedSets) →
+    AreUsedSets song used → packed_song_size packed ≡ packed_size song used
 one_size song packed is used are = is.size ∙ ap (packed_size song) (same_sets song is.used used is.are_used are)
 
 pub packs_shorter : (o : Options) (song : Song) (whole : PackedSong) (cut : Option PackedSong) → o.skip_first ≡ false →

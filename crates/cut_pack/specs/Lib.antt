@@ -3,3 +3,5 @@ pub mod Chosen
 pub mod Answers
 -- Claimed: it is one song, which serves as the song does.
 pub mod ChosenLaws
+-- Claimed: small songs, what is packed for them and what that answers, worked out by hand.
+pub mod WorkedChosen
