@@ -12,6 +12,7 @@ mod Ends
 mod Fileless
 mod Joining
 mod Listed
+mod Longer
 mod Measured
 mod MetPremises
 mod OneAsked

@@ -38,7 +38,7 @@ use Rattle.jobs.specs.Traces.{first_traces}
 use Rattle.packed_form.specs.ImagePlaces.{IsAddress}
 use Rattle.song_costs.specs.Kinds.{costs_of, all_bytes}
 use Rattle.jobs.specs.Costs.{TellCosts}
-use Rattle.jobs.specs.Packed.{IsImageLength, IsWrittenFile}
+use Rattle.jobs.specs.Packed.{IsLengthOf, IsImageLength, IsWrittenFile}
 use Rattle.jobs.specs.Answers.{IsPackedPsid, AssemblesListing, AsksToMake, HoldsJoined}
 
 -- an outcome's status is due, and one status alone is due
@@ -91,6 +91,12 @@ abbrev pub ImagesAreBounded : Type 0
 ImagesAreBounded =
     (song : Song) (options : Options) (used : UsedSets) (features count : ℕ) → IsImageLength song options count →
     AreUsedSets song used → AreFeatures song features → count ≤ data_size song used + code_bound features options
+
+-- and no longer than that of the song packed as it is
+abbrev pub NoImageIsLonger : Type 0
+NoImageIsLonger =
+    (song : Song) (options : Options) (own count : ℕ) → KeepsLimits song → IsPlayable song →
+    IsLengthOf song options own → IsImageLength song options count → count ≤ own
 
 -- the image of a song is refused only where the song's data and the bound of a player's code pass $D000 too
 abbrev pub OnlyLargeImagesAreRefused : Type 0

@@ -1,7 +1,7 @@
 //! Facts about the definitions, each the contract of a function that does nothing.
 
 ghost use Rattle.jobs.specs.Laws.{OutcomesAreDue, OneStatusIsDue, OneTextIsPrinted, StagesPass, PlayableSongsPass};
-ghost use Rattle.jobs.specs.Laws.{StatusesHaveCauses, OnlyLargeImagesAreRefused, SmallSongsArePacked, ImagesAreBounded};
+ghost use Rattle.jobs.specs.Laws.{StatusesHaveCauses, OnlyLargeImagesAreRefused, SmallSongsArePacked, ImagesAreBounded, NoImageIsLonger};
 ghost use Rattle.jobs.specs.Laws.{CostsAreTheImages, WrittenFilesArePacked, PackedFilesPlay, ListingsGoBack};
 ghost use Rattle.jobs.specs.Laws.{ScriptsMakeSongsAgain, JoinedFilesHoldBoth};
 ghost use Rattle.jobs.specs.MetPremises.{StatusesAreOrdinary, FittingSongsArePacked, PackedFilesAreRun};
@@ -37,6 +37,7 @@ pub fn statuses_have_causes()
 /// player end at or below `$D000`; for an image no song is refused else, and no image is longer than these.
 pub fn small_songs_are_packed()
     ensures bounded { ImagesAreBounded }
+    ensures longer { NoImageIsLonger }
     ensures images { OnlyLargeImagesAreRefused }
     ensures songs { SmallSongsArePacked }
 {}
