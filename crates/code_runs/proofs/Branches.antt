@@ -4,13 +4,13 @@ use Rattle.cpu6502.specs.declared.cpu.Cpu.{Cpu}
 use Rattle.cpu6502.specs.declared.mnemonic.Mnemonic.{Mnemonic}
 use Rattle.cpu6502.specs.declared.mnemonic.Mnemonic.TheVariants.{Bcc, Bcs, Beq, Bmi, Bne, Bpl, Bvc, Bvs}
 use Rattle.cpu6502.specs.Registers.{quiet}
-use Rattle.cpu6502.specs.Branches.{branched}
+use Rattle.cpu6502.specs.Branches.{branched, is_taken}
 use Rattle.cpu6502.specs.Effects.{effect_of}
 use Rattle.code_runs.specs.Runs.{State, Goes}
-use Rattle.code_runs.specs.Steps.{jumped, Works, takes, BranchSteps}
+use Rattle.code_runs.specs.Steps.{jumped, Works, BranchSteps}
 
 -- a branch goes to its place where it is taken, else to the next instruction
-branch_goes : (mn : Mnemonic) (own place : ℕ) (at : ℕ → ℕ) (cpu : Cpu) (taken : Bool) → takes mn cpu ≡ Some taken →
+branch_goes : (mn : Mnemonic) (own place : ℕ) (at : ℕ → ℕ) (cpu : Cpu) (taken : Bool) → is_taken mn cpu ≡ Some taken →
     effect_of mn own place at cpu ≡ Ok (quiet (branched cpu taken place))
 branch_goes Bcc own place at cpu taken e =
     let same : (not cpu.c) ≡ taken = cc in ap (λ z. Ok (quiet (branched cpu z place))) same
@@ -31,7 +31,7 @@ branch_goes Bvs own place at cpu taken e =
 branch_goes _ own place at cpu taken e = absurd (cc)
 
 -- the program counter is no matter
-same_flags : (mn : Mnemonic) (cpu : Cpu) (next : ℕ) → takes mn (jumped cpu next) ≡ takes mn cpu
+same_flags : (mn : Mnemonic) (cpu : Cpu) (next : ℕ) → is_taken mn (jumped cpu next) ≡ is_taken mn cpu
 same_flags Bcc cpu next = refl
 same_flags Bcs cpu next = refl
 same_flags Bne cpu next = refl
@@ -48,7 +48,7 @@ branch_steps = record {
   passed = λ w e. step w false e;
 } where
   step : {state : State} {mn : Mnemonic} {place next : ℕ} → Works state mn place next → (taken : Bool) →
-      takes mn state.cpu ≡ Some taken → Goes state (branched (jumped state.cpu next) taken place)
+      is_taken mn state.cpu ≡ Some taken → Goes state (branched (jumped state.cpu next) taken place)
   step {state = state} {mn = mn} {place = place} {next = next} w taken e =
       record {
         is = w.is ∙ branch_goes mn state.cpu.pc place state.at (jumped state.cpu next) taken

@@ -11,9 +11,9 @@ use Rattle.cpu6502.specs.declared.effect.Effect.{Effect}
 use Rattle.cpu6502.specs.declared.machine.Machine.{Machine}
 use Rattle.cpu6502.specs.declared.memory.TheConstants.{MEMORY_SIZE}
 use Rattle.cpu6502.specs.Effects.{stack_place}
-use Rattle.cpu6502.specs.Step.{written, changed, stepped, next_effect, step}
-use Rattle.cpu6502.specs.Call.{after_step, run, return_address, entered, writes_in}
-use Rattle.code_runs.specs.Runs.{State, view, put, put_all, left, Allowed, Runs, Leads}
+use Rattle.cpu6502.specs.Step.{written, changed, stepped, next_effect, next_cycles, step}
+use Rattle.cpu6502.specs.Call.{after_step, run, return_address, entered, writes_in, cycles_after, cycles_in}
+use Rattle.code_runs.specs.Runs.{State, view, put, put_all, left, Allowed, Runs, Leads, cycles_behind, cycles_from}
 use Rattle.code_runs.specs.Calls.{IsBelow, Arrives, CallsTo}
 
 -- a byte written to the list is a byte put to the function
@@ -58,8 +58,9 @@ all_allowed W (write ∷ writes) all =
 
 -- the first of the steps, and the way of the others
 one_on : (W : ℕ → Type 0) (n : ℕ) (m m1 : Machine) (done : Effect) (end : State) → next_effect m ≡ Ok done →
-    m1 ≡ changed m done → 0 < m.cpu.pc → Allowed W done.writes → Arrives W n m1 end → Arrives W (suc n) m end
-one_on W n m m1 done end e is away allowed rest = record {
+    m1 ≡ changed m done → view m1 ≡ left (view m) done → 0 < m.cpu.pc → Allowed W done.writes → Arrives W n m1 end →
+    Arrives W (suc n) m end
+one_on W n m m1 done end e is seen away allowed rest = record {
   after = rest.after;
   runs = rw first rest.runs;
   seen = rest.seen;
@@ -68,6 +69,9 @@ one_on W n m m1 done end e is away allowed rest = record {
   inside = subst (All (λ (write : Write). W write.place)) (sym writes)
       (All-append (λ (write : Write). W write.place) done.writes (writes_in n m1) (all_allowed W done.writes allowed)
       rest.inside);
+  takes = ap (λ r. next_cycles m + cycles_after r (cycles_in n)) first
+      ∙ (ap (λ c. next_cycles m + c) (rest.takes ∙ ap (cycles_from n) seen)
+      ∙ sym (ap (λ r. next_cycles m + cycles_behind r (λ d. cycles_from n (left (view m) d))) e));
 } where
   first : step m ≡ Ok m1
   first = ap (stepped m) e ∙ ap Ok (sym is)
@@ -92,6 +96,7 @@ follow W below zero m end size r = record {
   size = size;
   away = λ k between lt e. absurd (omega arith);
   inside = All-nil (λ (write : Write). W write.place);
+  takes = refl;
 }
 follow W below (suc n) m end size r =
     let m1 = changed m r.0 in
@@ -99,7 +104,7 @@ follow W below (suc n) m end size r =
     ap (λ (at : ℕ → ℕ). record { cpu = r.0.cpu; at = at })
     (written_view W below.below m.memory r.0.writes size r.3) in
     let size' = length-written m.memory r.0.writes ∙ size in
-    one_on W n m m1 r.0 end r.1 refl r.2 r.3 (follow W below n m1 end size'
+    one_on W n m m1 r.0 end r.1 refl seen r.2 r.3 (follow W below n m1 end size'
     (subst (λ s. Runs W n s end) (sym seen) r.4))
 
 pub machines_follow : (W : ℕ → Type 0) → IsBelow W → (n : ℕ) (m : Machine) (end : State) →
@@ -129,6 +134,7 @@ call_returns W below m address a n end size leads at_zero same_stack =
       seen = there.seen;
       size = there.size;
       inside = there.inside;
+      takes = there.takes;
     } where
       away_not_back : (pc : ℕ) → 0 < pc → pc ≡ 0 → ⊥
       away_not_back pc away e = omega arith

@@ -15,7 +15,7 @@ pub use Rattle.code_runs.proofs.Modes.{works, works_on_a, standing_has_effect, r
 pub use Rattle.code_runs.proofs.Steps.{load_steps, transfer_steps, logic_steps, sum_steps, compare_steps, shift_steps}
 pub use Rattle.code_runs.proofs.Steps.{count_steps, flag_steps, jump_steps, stack_steps}
 pub use Rattle.code_runs.proofs.Steps.{lda, ldx, sta, dex, jmp, rts}
-pub use Rattle.code_runs.specs.Steps.{summed, takes}
+pub use Rattle.code_runs.specs.Steps.{summed}
 pub use Rattle.code_runs.proofs.Branches.{branch_steps}
 pub use Rattle.code_runs.proofs.Branches.{bcc_taken, bcs_taken, bne_taken, beq_taken, bpl_taken, bmi_taken, bvc_taken, bvs_taken}
 pub use Rattle.code_runs.proofs.Branches.{bcc_passed, bcs_passed, bne_passed, beq_passed, bpl_passed, bmi_passed}
@@ -23,3 +23,7 @@ pub use Rattle.code_runs.proofs.Branches.{bvc_passed, bvs_passed}
 -- from runs to the machine and its calls
 pub use Rattle.code_runs.proofs.Bridge.{machines_follow, call_returns}
 pub use Rattle.code_runs.proofs.Entry.{entry_pulls, entry_kept}
+-- how many cycles they take
+pub use Rattle.code_runs.proofs.Cycles.{step_takes, cycles_on}
+pub use Rattle.code_runs.specs.Runs.{Lasts}
+pub use Rattle.code_runs.proofs.Cycles.{lasts_none, lasts_on, lasts_to, lasts_as, lasts_in, lasts_wider, lasts_once}

@@ -6,7 +6,8 @@ pub mod Moves
 pub mod Modes
 pub mod Steps
 pub mod Branches
--- inner: code from bytes, and from runs to calls
+-- inner: code from bytes, from runs to calls, and the cycles of runs
 pub mod Standing
 pub mod Bridge
+pub mod Cycles
 pub mod Entry

@@ -23,7 +23,7 @@ pub fetched : (at : ℕ → ℕ) (cpu : Cpu) (mn : Mnemonic) (mode : Mode) → i
 fetched at cpu mn mode memory e = ap (λ meaning. done_by meaning at cpu) e ∙ rw memory refl
 
 -- the place at which it works is the one that its operand gives
-address_is : (at : ℕ → ℕ) (cpu : Cpu) (mode : Mode) (operand : ℕ) → operand_at mode at cpu.pc ≡ operand →
+pub address_is : (at : ℕ → ℕ) (cpu : Cpu) (mode : Mode) (operand : ℕ) → operand_at mode at cpu.pc ≡ operand →
     address_of mode at cpu.pc cpu.x cpu.y ≡ place_of mode operand at cpu
 address_is at cpu Implied operand e = refl
 address_is at cpu Accumulator operand e = refl

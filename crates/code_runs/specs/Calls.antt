@@ -1,13 +1,13 @@
--- What a run on a function memory says of a machine, whose memory is a list: where it writes, what it leaves, and
--- that it is a call.
+-- What a run on a function memory says of a machine, whose memory is a list: where it writes, what it leaves, how many
+-- clock cycles it takes, and that it is a call.
 use Rattle.std.specs.Prelude.{◌≡◌, ◌≢◌, ℕ, ◌+◌, ◌%◌, ◌<◌, Bool, IsTrue, length, slice_index, Ok, All}
 use Rattle.cpu6502.specs.declared.effect.Write.{Write}
 use Rattle.cpu6502.specs.declared.machine.Machine.{Machine}
 use Rattle.cpu6502.specs.declared.memory.TheConstants.{MEMORY_SIZE}
 use Rattle.cpu6502.specs.Registers.{stack_place}
 use Rattle.cpu6502.specs.Step.{written}
-use Rattle.cpu6502.specs.Call.{run, return_address, entered, Called, writes_in}
-use Rattle.code_runs.specs.Runs.{State, view, Leads}
+use Rattle.cpu6502.specs.Call.{run, return_address, entered, Called, writes_in, cycles_in, call_cycles}
+use Rattle.code_runs.specs.Runs.{State, view, Leads, cycles_from}
 
 -- the places that a test picks out
 abbrev pub In : (ℕ → Bool) → ℕ → Type 0
@@ -26,6 +26,7 @@ pub record Arrives (W : ℕ → Type 0) (n : ℕ) (machine : Machine) (end : Sta
   pub size : length after.memory ≡ MEMORY_SIZE
   pub away : (k : ℕ) (between : Machine) → k < n → run k machine ≡ Ok between → 0 < between.cpu.pc
   pub inside : All (λ (write : Write). W write.place) (writes_in n machine)
+  pub takes : cycles_in n machine ≡ cycles_from n (view machine)
 
 -- the machine goes where the run goes
 abbrev pub MachinesFollowRuns : Type 0
@@ -46,6 +47,7 @@ pub record CallsTo (W : ℕ → Type 0) (machine : Machine) (address a n : ℕ) 
   pub seen : view after ≡ end
   pub size : length after.memory ≡ MEMORY_SIZE
   pub inside : All (λ (write : Write). W write.place) (writes_in n (entered machine address a))
+  pub takes : call_cycles machine address a n ≡ cycles_from n (view (entered machine address a))
 
 -- a run from the entry of a call to address 0, with the stack pointer back, is that call
 abbrev pub RunsAreCalls : Type 0

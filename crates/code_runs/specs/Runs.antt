@@ -1,13 +1,15 @@
 -- Runs of machine code on a memory that is a function from places to bytes: the form in which code is reasoned about.
 -- Their steps are the effects of the MOS 6502 programming manual's instructions.
-use Rattle.std.specs.Prelude.{◌≡◌, ℕ, zero, suc, ◌<◌, List, [], ◌∷◌, Ok, nat_eq, slice_index}
+use Rattle.std.specs.Prelude.{◌≡◌, ℕ, zero, suc, ◌+◌, ◌<◌, List, [], ◌∷◌, Result, Ok, Err, nat_eq, slice_index}
 use Rattle.std.specs.Prelude.{if◌then◌else◌}
 use Rattle.cpu6502.specs.declared.cpu.Cpu.{Cpu}
 use Rattle.cpu6502.specs.declared.effect.Write.{Write}
 use Rattle.cpu6502.specs.declared.effect.Effect.{Effect}
 use Rattle.cpu6502.specs.declared.machine.Machine.{Machine}
+use Rattle.cpu6502.specs.declared.stop.Stop.{Stop}
 use Rattle.cpu6502.specs.Registers.{quiet, storing}
 use Rattle.cpu6502.specs.Effects.{effect}
+use Rattle.cpu6502.specs.Cycles.{cycles}
 
 -- registers, and the byte at each place
 pub record State : Type 0 where
@@ -61,3 +63,22 @@ Runs W (suc n) state after =
 -- the same as a record, which stays closed where the number of steps is a numeral
 pub record Leads (W : ℕ → Type 0) (n : ℕ) (state after : State) : Type 0 where
   pub runs : Runs W n state after
+
+-- ---- clock cycles
+
+-- the cycles of what follows an effect; nothing follows a stop
+abbrev pub cycles_behind : Result Effect Stop → (Effect → ℕ) → ℕ
+cycles_behind (Ok done) go = go done
+cycles_behind (Err stop) go = 0
+
+-- the cycles of the next n steps from a state
+abbrev pub cycles_from : ℕ → State → ℕ
+cycles_from zero state = 0
+cycles_from (suc n) state =
+    cycles state.at state.cpu
+    + cycles_behind (effect state.at state.cpu) (λ done. cycles_from n (left state done))
+
+-- a run of n steps that takes so many cycles
+pub record Lasts (W : ℕ → Type 0) (n cycles : ℕ) (state after : State) : Type 0 where
+  pub leads : Leads W n state after
+  pub takes : cycles_from n state ≡ cycles

@@ -11,6 +11,7 @@ use Rattle.cpu6502.specs.declared.mnemonic.Mnemonic.TheVariants.{Eor, Inc, Inx, 
 use Rattle.cpu6502.specs.declared.mnemonic.Mnemonic.TheVariants.{Ora, Pha, Php, Pla, Plp, Rol, Ror, Rti, Rts, Sbc, Sec}
 use Rattle.cpu6502.specs.declared.mnemonic.Mnemonic.TheVariants.{Sed, Sei, Sta, Stx, Sty, Tax, Tay, Tsx, Txa, Txs, Tya}
 use Rattle.cpu6502.specs.Registers.{one_if, stack_place, with_sign_and_zero, with_a, with_x, with_y}
+use Rattle.cpu6502.specs.Branches.{is_taken}
 use Rattle.cpu6502.specs.Logic.{tested}
 use Rattle.cpu6502.specs.Arithmetic.{overflows}
 use Rattle.cpu6502.specs.Shifts.{accumulator_effect}
@@ -197,21 +198,9 @@ pub record StackSteps : Type 0 where
       state.at (stack_place (state.cpu.sp + 1)) ≡ byte → (state.cpu.sp + 1) % 256 ≡ sp →
       Goes state (with_status (record state.cpu { pc = next; sp = sp }) byte)
 
--- whether a branch is taken, by its name; none for any other name
-abbrev pub takes : Mnemonic → Cpu → Option Bool
-takes Bcc cpu = Some (not cpu.c)
-takes Bcs cpu = Some cpu.c
-takes Bne cpu = Some (not cpu.z)
-takes Beq cpu = Some cpu.z
-takes Bpl cpu = Some (not cpu.n)
-takes Bmi cpu = Some cpu.n
-takes Bvc cpu = Some (not cpu.v)
-takes Bvs cpu = Some cpu.v
-takes _ cpu = None
-
 -- branches: to their place where they are taken, else to the next instruction
 pub record BranchSteps : Type 0 where
   pub taken : {state : State} {mn : Mnemonic} {place next : ℕ} → Works state mn place next →
-      takes mn state.cpu ≡ Some true → Goes state (jumped state.cpu place)
+      is_taken mn state.cpu ≡ Some true → Goes state (jumped state.cpu place)
   pub passed : {state : State} {mn : Mnemonic} {place next : ℕ} → Works state mn place next →
-      takes mn state.cpu ≡ Some false → Goes state (jumped state.cpu next)
+      is_taken mn state.cpu ≡ Some false → Goes state (jumped state.cpu next)

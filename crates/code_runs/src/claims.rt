@@ -1,12 +1,13 @@
 //! Facts about runs of machine code, each the contract of a function that does nothing.
 
 ghost use Rattle.code_runs.specs.Calls.{CallsBeginSo, MachinesFollowRuns, RunsAreCalls, RunsStayInside};
+ghost use Rattle.code_runs.specs.Cycles.{CyclesAdd, StepsTakeCycles};
 ghost use Rattle.code_runs.specs.Steps.{BranchSteps, CompareSteps, CountSteps, FlagSteps, JumpSteps, LoadSteps};
 ghost use Rattle.code_runs.specs.Steps.{LogicSteps, ShiftSteps, StackSteps, SumSteps, TransferSteps};
 ghost use Rattle.code_runs.specs.Decoded.{BranchesStand, CodeStays, StandAlone, StandByByte, StandByWord, StandingHasEffect};
 
 /// A run from the entry of a call to address 0, with the stack pointer back, is that call, in the run's number of
-/// steps. The machine writes at the run's places alone; each other place has the byte that it had.
+/// steps and clock cycles. The machine writes at the run's places alone; each other place has the byte that it had.
 pub fn runs_are_calls()
     ensures machines { MachinesFollowRuns }
     ensures inside { RunsStayInside }
@@ -40,4 +41,10 @@ pub fn instructions_step()
     ensures branches { BranchSteps }
     ensures jumps { JumpSteps }
     ensures stack { StackSteps }
+{}
+
+/// A step takes the clock cycles of the instruction that stands there, and a run those of its parts.
+pub fn runs_take_cycles()
+    ensures steps { StepsTakeCycles }
+    ensures add { CyclesAdd }
 {}

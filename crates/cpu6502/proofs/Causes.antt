@@ -22,7 +22,7 @@ ok_no_err : (done : Effect) (stop : Stop) → Ok done ≡ Err stop → ⊥
 ok_no_err done stop h = cc
 
 -- an instruction's name and the registers' decimal flag, where it stops
-abbrev Stopped : Mnemonic → ℕ → Bool → Stop → Type 0
+abbrev pub Stopped : Mnemonic → ℕ → Bool → Stop → Type 0
 Stopped mn own d stop =
     ((mn ≡ Brk) × (stop ≡ Break own)) ⊎ (((mn ≡ Adc) ⊎ (mn ≡ Sbc)) × (d ≡ true) × (stop ≡ Decimal own))
 
@@ -53,7 +53,7 @@ accumulator_goes Ror own cpu stop e h = ok_no_err _ stop h
 accumulator_goes _ own cpu stop e h = absurd (false≢true e)
 
 -- a row that is not of the accumulator, with the stop that its instruction meets
-plain_cause : (mn : Mnemonic) (mode : Mode) (at : ℕ → ℕ) (cpu : Cpu) (stop : Stop) →
+pub plain_cause : (mn : Mnemonic) (mode : Mode) (at : ℕ → ℕ) (cpu : Cpu) (stop : Stop) →
     meaning_of (at cpu.pc) ≡ Some (mn, mode) → at cpu.pc < 256 → Stopped mn cpu.pc cpu.d stop → IsCause at cpu stop
 plain_cause mn mode at cpu (Illegal place) row below (inl (is, e)) = absurd cc
 plain_cause mn mode at cpu (Decimal place) row below (inl (is, e)) = absurd cc

@@ -2,6 +2,8 @@
 
 -- the table and its inverse
 pub use Rattle.cpu6502.proofs.Inverse.{opcodes_have_rows, rows_have_opcodes, rows_differ}
+-- its cycles
+pub use Rattle.cpu6502.proofs.Columns.{has_row, rows_have_these_cycles, effects_take_cycles}
 -- each stop has its cause; sums are of numbers
 pub use Rattle.cpu6502.proofs.Causes.{stops_have_causes}
 pub use Rattle.cpu6502.proofs.Sums.{sums_are_of_numbers, differences_are_of_numbers}

@@ -6,8 +6,9 @@ pub mod Steps
 pub mod Calls
 pub mod Causes
 pub mod Machines
--- inner: the table and its inverse, sums
+-- inner: the table and its inverse, its cycles, sums
 pub mod EachRow
 pub mod Inverse
 pub mod Accumulator
+pub mod Columns
 pub mod Sums

@@ -11,7 +11,7 @@ use Rattle.cpu6502.specs.declared.stop.Stop.{Stop}
 use Rattle.cpu6502.specs.declared.stop.CallStop.{CallStop}
 use Rattle.cpu6502.specs.declared.stop.CallStop.TheVariants.{Stopped, Budget}
 use Rattle.cpu6502.specs.Effects.{stack_place}
-use Rattle.cpu6502.specs.Step.{written, next_effect, step}
+use Rattle.cpu6502.specs.Step.{written, next_effect, next_cycles, step}
 
 -- what follows a step, or its stop
 abbrev pub after_step : Result Machine Stop → (Machine → Result Machine Stop) → Result Machine Stop
@@ -85,3 +85,18 @@ writes_after (Err stop) go = []
 abbrev pub writes_in : ℕ → Machine → List Write
 writes_in zero machine = []
 writes_in (suc n) machine = writes_by (next_effect machine) ++ writes_after (step machine) (writes_in n)
+
+-- the clock cycles of what follows a step; nothing follows a stop
+abbrev pub cycles_after : Result Machine Stop → (Machine → ℕ) → ℕ
+cycles_after (Ok machine) go = go machine
+cycles_after (Err stop) go = 0
+
+-- the clock cycles of a machine's next n steps; a stop ends them
+abbrev pub cycles_in : ℕ → Machine → ℕ
+cycles_in zero machine = 0
+cycles_in (suc n) machine = next_cycles machine + cycles_after (step machine) (cycles_in n)
+
+-- the clock cycles of a call that returns after this many steps, from the first instruction at its address to its
+-- return; those of the caller, which pushes and jumps, are none of them
+abbrev pub call_cycles : Machine → ℕ → ℕ → ℕ → ℕ
+call_cycles machine address a steps = cycles_in steps (entered machine address a)

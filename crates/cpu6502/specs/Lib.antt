@@ -14,6 +14,8 @@ pub mod Branches
 pub mod Jumps
 pub mod Stack
 pub mod Effects
+-- to believe: how many clock cycles it takes
+pub mod Cycles
 -- to believe: machines, their steps, their calls, and the log of a call
 pub mod Code
 pub mod Step
@@ -21,9 +23,11 @@ pub mod Call
 pub mod Log
 -- claimed: what the definitions say, and steps worked by hand
 pub mod Rows
+pub mod Manual
 pub mod Stops
 pub mod Sums
 pub mod Machines
 pub mod WorkedSteps
 pub mod WorkedModes
 pub mod WorkedCalls
+pub mod WorkedCycles

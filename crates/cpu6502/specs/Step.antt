@@ -6,6 +6,7 @@ use Rattle.cpu6502.specs.declared.effect.Effect.{Effect}
 use Rattle.cpu6502.specs.declared.machine.Machine.{Machine}
 use Rattle.cpu6502.specs.declared.stop.Stop.{Stop}
 use Rattle.cpu6502.specs.Effects.{effect}
+use Rattle.cpu6502.specs.Cycles.{cycles}
 
 -- a memory after these writes, one after the other
 abbrev pub written : List ℕ → List Write → List ℕ
@@ -24,6 +25,10 @@ stepped machine (Err stop) = Err stop
 -- the effect of the instruction that a machine is at
 abbrev pub next_effect : Machine → Result Effect Stop
 next_effect machine = effect (slice_index machine.memory) machine.cpu
+
+-- the clock cycles of that instruction; 0 where it stops
+abbrev pub next_cycles : Machine → ℕ
+next_cycles machine = cycles (slice_index machine.memory) machine.cpu
 
 -- the machine after one step, or the stop that it meets
 abbrev pub step : Machine → Result Machine Stop

@@ -3,10 +3,13 @@
 ghost use Rattle.cpu6502.specs.Opcodes.{OpcodesHaveRows, RowsHaveOpcodes};
 ghost use Rattle.cpu6502.specs.Rows.{TableHas151Rows, RowsDiffer, CyclesAreCounted, ReadsHaveRows, StoresHaveRows};
 ghost use Rattle.cpu6502.specs.Rows.{ChangesHaveRows, OthersHaveRows, UndocumentedBytesHaveNone, MissingModesHaveNone};
+ghost use Rattle.cpu6502.specs.Manual.{EffectsTakeCycles, RowsHaveTheseCycles};
 ghost use Rattle.cpu6502.specs.Stops.{StopsHaveCauses};
 ghost use Rattle.cpu6502.specs.Machines.{CallsKeepMachines, StepsKeepMachines};
 ghost use Rattle.cpu6502.specs.Sums.{DifferencesAreOfNumbers, SumsAreOfNumbers};
 ghost use Rattle.cpu6502.specs.WorkedCalls.{CallersPush, LogsHaveRoom, MemoryIsFull, SidStandsThere};
+ghost use Rattle.cpu6502.specs.WorkedCycles.{BranchesCross, EachBranchTakes, EachReadCrosses, OthersDoNotCross, OthersTake};
+ghost use Rattle.cpu6502.specs.WorkedCycles.{ReadsCross, RunsTake, StopsTakeNone};
 ghost use Rattle.cpu6502.specs.WorkedModes.{ComparesInModes, CountsInModes, LoadsInModes, LogicInModes, ShiftsInModes};
 ghost use Rattle.cpu6502.specs.WorkedModes.{StoresInModes, SumsInModes};
 ghost use Rattle.cpu6502.specs.WorkedSteps.{Branches, Differences, JumpsAndReturns, LoadsAndStores, ShiftsAndCounts};
@@ -30,6 +33,13 @@ pub fn worked_rows()
     ensures cycles { CyclesAreCounted }
     ensures undocumented { UndocumentedBytesHaveNone }
     ensures missing { MissingModesHaveNone }
+{}
+
+/// Each row of the table has the cycles that the manual's tables have for what it does and its mode; and an instruction
+/// takes cycles exactly where it has an effect.
+pub fn cycles_are_the_manuals()
+    ensures rows { RowsHaveTheseCycles }
+    ensures effects { EffectsTakeCycles }
 {}
 
 /// A step stops as Illegal exactly where the byte at the program counter has no row, as Break exactly at BRK, and as
@@ -72,6 +82,19 @@ pub fn worked_modes()
     ensures logic { LogicInModes }
     ensures shifts { ShiftsInModes }
     ensures counts { CountsInModes }
+{}
+
+/// Clock cycles that are worked by hand from the manual: of instructions that cross a page and don't, of branches, stops
+/// and runs.
+pub fn worked_cycles()
+    ensures reads { ReadsCross }
+    ensures each_read { EachReadCrosses }
+    ensures others { OthersDoNotCross }
+    ensures branches { BranchesCross }
+    ensures each_branch { EachBranchTakes }
+    ensures rows { OthersTake }
+    ensures stops { StopsTakeNone }
+    ensures runs { RunsTake }
 {}
 
 /// The machine's constants, at their edges.

@@ -82,7 +82,7 @@ fn execute(
 }
 
 /// Where an instruction stops instead of its effect.
-fn stop(mnemonic: Mnemonic, own: u16, cpu: Cpu) -> Option<Stop>
+pub fn stop(mnemonic: Mnemonic, own: u16, cpu: Cpu) -> Option<Stop>
     ensures { result ≡ stop_of mnemonic own cpu }
 {
     match mnemonic {

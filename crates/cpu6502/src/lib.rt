@@ -16,6 +16,7 @@ pub mod claims;
 mod compare;
 mod count;
 mod cpu;
+mod cycles;
 mod effect;
 mod execute;
 mod flags;

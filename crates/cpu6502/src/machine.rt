@@ -2,12 +2,13 @@
 
 ghost use Rattle.std.specs.Prelude.{◌≡◌, ℕ, ◌≤◌, Ok, Err, OnOk, OnErr, IfOk, IfErr, ◌++◌, [], List};
 ghost use Rattle.std.specs.Prelude.{◌↔◌, IsTrue};
-ghost use Rattle.cpu6502.specs.Step.{step, changed};
+ghost use Rattle.cpu6502.specs.Step.{step, changed, next_cycles};
 ghost use Rattle.cpu6502.specs.Call.{entered, HasReturned, Called, FailsBy, writes_in};
 ghost use Rattle.cpu6502.specs.declared.log.SidWrite.{SidWrite};
 ghost use Rattle.cpu6502.specs.Log.{log_of, sid_writes};
 
 use crate::cpu::Cpu;
+use crate::cycles::next_cycles;
 use crate::effect::Effect;
 use crate::execute::next_effect;
 use crate::log::WriteLog;
@@ -42,6 +43,13 @@ impl Machine {
         let done = next_effect(&self.memory, self.cpu)?;
         self.take(&done);
         Ok(())
+    }
+
+    /// The clock cycles of the instruction at the program counter, 2 to 7; 0 where [`Machine::step`] stops.
+    pub fn cycles(&self) -> u8
+        ensures { result ≡ next_cycles self.now }
+    {
+        next_cycles(&self.memory, self.cpu)
     }
 
     /// Calls the code at an address with a number in the accumulator: pushes `$FF` twice and steps until the program

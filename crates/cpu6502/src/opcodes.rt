@@ -1,6 +1,6 @@
 //! The decode table read both ways: from an opcode to its instruction, and back.
 
-ghost use Rattle.std.specs.Prelude.{◌≡◌, ◌<◌, IfSome, length, position};
+ghost use Rattle.std.specs.Prelude.{◌≡◌, ◌<◌, ◌≤◌, IfSome, length, position};
 ghost use Rattle.cpu6502.specs.Opcodes.{row_of, meaning_of, is_row, opcode_of};
 
 use crate::mnemonic::{Mnemonic, Mode};
@@ -8,7 +8,8 @@ use crate::table::{Row, TABLE};
 
 /// The row of an opcode byte in the table of the MOS 6502 programming manual; `None` where the opcode has no row there.
 pub fn row_of(opcode: u8) -> Option<Row>
-    ensures { result ≡ row_of opcode }
+    ensures row { result ≡ row_of opcode }
+    ensures quick { IfSome result (λ row. row.cycles ≤ 7) }
 {
     // Borrowed, so that a look-up doesn't copy the table.
     let table: &'static [Option<Row>] = &TABLE;

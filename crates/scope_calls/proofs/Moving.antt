@@ -7,11 +7,12 @@ use Rattle.cpu6502.specs.declared.mnemonic.Mode.{Mode}
 use Rattle.cpu6502.specs.declared.mnemonic.Mode.TheVariants.{Implied, Immediate, Absolute}
 use Rattle.cpu6502.specs.Registers.{stack_place}
 use Rattle.cpu6502.specs.Opcodes.{length_of}
+use Rattle.cpu6502.specs.Manual.{cycles_of}
 use Rattle.code_runs.specs.Runs.{State, put, Leads}
 use Rattle.code_runs.specs.Code.{Stands}
 use Rattle.code_runs.specs.Calls.{Pulls}
 use Rattle.code_runs.proofs.Laws.{stay, does, goes_once, leads_stay, put_same, put_other, works}
-use Rattle.code_runs.proofs.Laws.{reads_immediate, flag_steps, load_steps, jump_steps, stands_stay}
+use Rattle.code_runs.proofs.Laws.{Lasts, lasts_once, reads_immediate, flag_steps, load_steps, jump_steps, stands_stay}
 use Rattle.scopes.specs.Desk.{Desk}
 use Rattle.scope_lines.specs.Lowered.{writes_at, spot}
 use Rattle.scope_lines.proofs.Laws.{Ground, HasCode as HasLines}
@@ -49,34 +50,33 @@ next_is pc bytes e h ends = omega (arith, e, h, ends)
 from_low : {pc low : ℕ} → 0 < low → low ≤ pc → 0 < pc
 from_low away low = omega (arith, away, low)
 
-pub clear_leads : {W : ℕ → Type 0} (g : Ground) (pc next : ℕ) (desk : Desk) → HasLines g desk.at → g.low ≤ pc →
+pub clear_lasts : {W : ℕ → Type 0} (g : Ground) (pc next : ℕ) (desk : Desk) → HasLines g desk.at → g.low ≤ pc →
     pc + 1 ≤ g.high → pc + 1 ≡ next → Stands g.code pc Cld Implied 0 →
-    Leads W 1 (spot pc desk) (spot next (cleared desk))
-clear_leads g pc next desk has low high is s =
-    goes_once
-    (flag_steps.cld
-    (works 0 next (stands_here g desk.at pc 0 Cld Implied has low high s) refl refl (next_is pc 1 is high g.ends)
-    (from_low g.away low)))
+    Lasts W 1 (cycles_of Cld Implied) (spot pc desk) (spot next (cleared desk))
+clear_lasts g pc next desk has low high is s =
+    let here = stands_here g desk.at pc 0 Cld Implied has low high s in
+    lasts_once here
+    (goes_once (flag_steps.cld (works 0 next here refl refl (next_is pc 1 is high g.ends) (from_low g.away low))))
 
-pub voice_leads : {W : ℕ → Type 0} (g : Ground) (pc next voice : ℕ) (desk : Desk) → HasLines g desk.at → g.low ≤ pc →
+pub voice_lasts : {W : ℕ → Type 0} (g : Ground) (pc next voice : ℕ) (desk : Desk) → HasLines g desk.at → g.low ≤ pc →
     pc + 2 ≤ g.high → pc + 2 ≡ next → Stands g.code pc Ldx Immediate (7 * voice) →
-    Leads W 1 (spot pc desk) (spot next (at_voice voice desk))
-voice_leads g pc next voice desk has low high is s =
-    goes_once
-    (load_steps.ldx
-    (reads_immediate next (stands_here g desk.at pc (7 * voice) Ldx Immediate has low high s)
-    (next_is pc 2 is high g.ends)
-    (from_low g.away low)))
+    Lasts W 1 (cycles_of Ldx Immediate) (spot pc desk) (spot next (at_voice voice desk))
+voice_lasts g pc next voice desk has low high is s =
+    let here = stands_here g desk.at pc (7 * voice) Ldx Immediate has low high s in
+    lasts_once here
+    (goes_once (load_steps.ldx (reads_immediate next here (next_is pc 2 is high g.ends) (from_low g.away low))))
 
-pub call_leads : {W : ℕ → Type 0} (g : Ground) (pc last place : ℕ) (desk : Desk) → HasLines g desk.at → g.low ≤ pc →
+pub call_lasts : {W : ℕ → Type 0} (g : Ground) (pc last place : ℕ) (desk : Desk) → HasLines g desk.at → g.low ≤ pc →
     pc + 3 ≤ g.high → pc + 2 ≡ last → Stands g.code pc Jsr Absolute place → W (stack_place desk.cpu.sp) →
-    W (stack_place (desk.cpu.sp + 255)) → Leads W 1 (spot pc desk) (spot place (called_from last desk))
-call_leads g pc last place desk has low high is s upper lower =
-    does
+    W (stack_place (desk.cpu.sp + 255)) →
+    Lasts W 1 (cycles_of Jsr Absolute) (spot pc desk) (spot place (called_from last desk))
+call_lasts g pc last place desk has low high is s upper lower =
+    let here = stands_here g desk.at pc place Jsr Absolute has low high s in
+    lasts_once here
+    (does
     (jump_steps.jsr
-    (works place (last + 1) (stands_here g desk.at pc place Jsr Absolute has low high s) refl refl
-    (next_is pc 3 (three pc is) high g.ends) (from_low g.away low)) (two pc is high g.ends) refl refl refl refl refl)
-    (upper, (lower, tt)) (stay _)
+    (works place (last + 1) here refl refl (next_is pc 3 (three pc is) high g.ends) (from_low g.away low))
+    (two pc is high g.ends) refl refl refl refl refl) (upper, (lower, tt)) (stay _))
   where
     three : (n : ℕ) {m : ℕ} → n + 2 ≡ m → n + 3 ≡ m + 1
     three n e = omega (arith, e)
@@ -84,14 +84,16 @@ call_leads g pc last place desk has low high is s upper lower =
     two : (n : ℕ) {m high : ℕ} → n + 2 ≡ m → n + 3 ≤ high → high < 65536 → (n + 2) % 65536 ≡ m
     two n e h ends = omega (arith, e, h, ends)
 
-pub return_leads : {W : ℕ → Type 0} (g : Ground) (pc low high to : ℕ) (desk : Desk) → HasLines g desk.at → g.low ≤ pc →
+pub return_lasts : {W : ℕ → Type 0} (g : Ground) (pc low high to : ℕ) (desk : Desk) → HasLines g desk.at → g.low ≤ pc →
     pc + 1 ≤ g.high → Stands g.code pc Rts Implied 0 → Pulls desk.at desk.cpu.sp low high →
-    (low + 256 * high + 1) % 65536 ≡ to → Leads W 1 (spot pc desk) (spot to (returned desk))
-return_leads g pc low high to desk has from to_high s pulls is =
-    goes_once
-    (jump_steps.rts
-    (works 0 (pc + 1) (stands_here g desk.at pc 0 Rts Implied has from to_high s) refl refl
-    (next_is pc 1 refl to_high g.ends) (from_low g.away from)) pulls is refl)
+    (low + 256 * high + 1) % 65536 ≡ to →
+    Lasts W 1 (cycles_of Rts Implied) (spot pc desk) (spot to (returned desk))
+return_lasts g pc low high to desk has from to_high s pulls is =
+    let here = stands_here g desk.at pc 0 Rts Implied has from to_high s in
+    lasts_once here
+    (goes_once
+    (jump_steps.rts (works 0 (pc + 1) here refl refl (next_is pc 1 refl to_high g.ends) (from_low g.away from)) pulls is
+    refl))
 
 -- what a call has pushed, the return pulls
 pub called_pulls : (last : ℕ) (desk : Desk) →

@@ -8,10 +8,12 @@ use Rattle.cpu6502.specs.declared.memory.TheConstants.{MEMORY_SIZE}
 use Rattle.cpu6502.specs.declared.mnemonic.Mnemonic.TheVariants.{Jmp}
 use Rattle.cpu6502.specs.declared.mnemonic.Mode.TheVariants.{Absolute}
 use Rattle.cpu6502.specs.Registers.{stack_place}
+use Rattle.cpu6502.specs.Manual.{cycles_of}
 use Rattle.cpu6502.specs.Call.{entered}
-use Rattle.code_runs.specs.Runs.{view, Leads}
+use Rattle.code_runs.specs.Runs.{view}
 use Rattle.code_runs.specs.Code.{Stands}
-use Rattle.code_runs.proofs.Laws.{goes_once, leads_on, in_steps, call_returns, entry_pulls, entry_kept, works}
+use Rattle.code_runs.proofs.Laws.{goes_once, call_returns, entry_pulls, entry_kept, works}
+use Rattle.code_runs.proofs.Laws.{Lasts, lasts_once, lasts_on, lasts_in}
 use Rattle.code_runs.proofs.Laws.{jump_steps, stands_stay}
 use Rattle.asm6502.specs.Lines.{kept, size_of}
 use Rattle.asm6502.specs.Standing.{LinesAt}
@@ -22,6 +24,7 @@ use Rattle.scope_lines.specs.Lowered.{spot}
 use Rattle.scope_calls.specs.Entrances.{entrance_lines, voice_has_lines}
 use Rattle.scope_calls.specs.Listed.{Listed, low_at, layout_at, HasCode, IsCode, IsWellEntered, entrance_desk, meant}
 use Rattle.scope_calls.specs.Listed.{MayStore, AsBlock, AsCall}
+use Rattle.scope_calls.specs.Cycles.{entrance_cycles, meant_cycles}
 use Rattle.scope_calls.specs.EntranceLaws.{EntrancesReturn}
 use Rattle.scope_calls.proofs.Sizing.{parts_stand}
 use Rattle.scope_calls.proofs.Places.{bounds_of, ground_of, code_stands, store_below, store_outside, block_off_stack}
@@ -68,15 +71,16 @@ code_entered e machine number well size has =
 -- ---- a call
 
 -- the jump leads to the first line
-jump_leads : (e : Listed) (at : ℕ → ℕ) (desk : Desk) {W : ℕ → Type 0} → IsWellEntered e → HasCode e at → desk.at ≡ at →
-    Leads W 1 (spot e.entry desk) (spot ((layout_at e).address e.entrance.label) desk)
-jump_leads e at desk well has is =
+jump_lasts : (e : Listed) (at : ℕ → ℕ) (desk : Desk) {W : ℕ → Type 0} → IsWellEntered e → HasCode e at → desk.at ≡ at →
+    Lasts W 1 (cycles_of Jmp Absolute) (spot e.entry desk) (spot ((layout_at e).address e.entrance.label) desk)
+jump_lasts e at desk well has is =
     let bounds = bounds_of e well in
     let s : Stands desk.at e.entry Jmp Absolute (low_at e) = rw is has.jump in
-    goes_once
+    lasts_once s
+    (goes_once
     (jump_steps.jmp
     (works ((layout_at e).address e.entrance.label) (e.entry + 3) s refl (sym well.named)
-    (fits e.entry bounds.entry_high) (omega (arith, bounds.entry_low))))
+    (fits e.entry bounds.entry_high) (omega (arith, bounds.entry_low)))))
   where
     fits : (n : ℕ) → n + 3 ≤ 0xD000 → (n + 3) % 65536 ≡ n + 3
     fits n h = omega arith
@@ -128,6 +132,7 @@ call_ends : (e : Listed) (machine : Machine) (number : ℕ) (well : IsWellEntere
     (meant e machine number).outcome ≡ Done →
     Ends (ground_of e (slice_index (entered machine e.entry number).memory) well) (MayStore e machine.cpu.sp)
     (entrance_desk e machine number) (meant e machine number)
+    (entrance_cycles (layout_at e) e.entrance (entrance_desk e machine number))
 call_ends e machine number well size has done =
     let sp = machine.cpu.sp in
     let unwritten = return_unwritten e sp well in
@@ -142,21 +147,23 @@ entrances_return e machine number well size few has done =
     let code = code_entered e machine number well size has in
     let ends = call_ends e machine number well size code done in
     let r = meant e machine number in
-    let way : Leads (MayStore e machine.cpu.sp) (r.cost + 1) (view (entered machine e.entry number)) (spot 0 r.desk) =
-    in_steps (one_more r.cost)
-    (leads_on
-    (jump_leads e (slice_index (entered machine e.entry number).memory) (entrance_desk e machine number) well code refl)
-    ends.leads) in
+    let way : Lasts (MayStore e machine.cpu.sp) (r.cost + 1) (meant_cycles e machine number)
+    (view (entered machine e.entry number)) (spot 0 r.desk) =
+    lasts_in (one_more r.cost)
+    (lasts_on
+    (jump_lasts e (slice_index (entered machine e.entry number).memory) (entrance_desk e machine number) well code refl)
+    ends.lasts) in
     let calls =
     call_returns (MayStore e machine.cpu.sp) (record { below = λ q may. store_below e machine.cpu.sp q well may })
     machine
-    e.entry number (r.cost + 1) (spot 0 r.desk) size way refl (ends.sp ∙ again machine.cpu.sp few) in
+    e.entry number (r.cost + 1) (spot 0 r.desk) size way.leads refl (ends.sp ∙ again machine.cpu.sp few) in
     record {
       steps = r.cost + 1;
       after = calls.after;
       called = calls.called;
       seen = calls.seen;
       steps_are = refl;
+      cycles_are = calls.takes ∙ way.takes;
       writes = calls.inside;
       size = calls.size;
     }

@@ -6,7 +6,7 @@ use Rattle.cpu6502.specs.declared.effect.Write.{Write}
 use Rattle.cpu6502.specs.declared.machine.Machine.{Machine}
 use Rattle.cpu6502.specs.declared.memory.TheConstants.{MEMORY_SIZE}
 use Rattle.cpu6502.specs.Registers.{stack_place}
-use Rattle.cpu6502.specs.Call.{entered, Called, writes_in}
+use Rattle.cpu6502.specs.Call.{entered, Called, writes_in, call_cycles}
 use Rattle.scopes.specs.Trees.{Tree}
 use Rattle.scopes.specs.Meaning.{Done}
 use Rattle.scope_lines.specs.Weights.{weight}
@@ -15,16 +15,18 @@ use Rattle.scope_lines.specs.Lowered.{writes_at, spot}
 use Rattle.code_runs.specs.Runs.{view}
 use Rattle.scope_calls.specs.Entrances.{Entrance}
 use Rattle.scope_calls.specs.Listed.{Listed, InListing, layout_at, HasCode, IsCode, IsWellEntered, meant, MayStore}
+use Rattle.scope_calls.specs.Cycles.{meant_cycles}
 
 -- a call at an entrance with a number in A returns: the memory, the registers and the flags are what the entrance
--- means, the program counter apart, the steps are those that it counts and the jump, and each write is at a place where
--- it may be
+-- means, the program counter apart, the steps are those that it counts and the jump, so are the clock cycles, and each
+-- write is at a place where it may be
 pub record Returns (e : Listed) (machine : Machine) (number : ℕ) : Type 0 where
   pub steps : ℕ
   pub after : Machine
   pub called : Called machine e.entry number steps after
   pub seen : view after ≡ spot 0 (meant e machine number).desk
   pub steps_are : steps ≡ (meant e machine number).cost + 1
+  pub cycles_are : call_cycles machine e.entry number steps ≡ meant_cycles e machine number
   pub writes : All (λ (write : Write). MayStore e machine.cpu.sp write.place)
       (writes_in steps (entered machine e.entry number))
   pub size : length after.memory ≡ MEMORY_SIZE
@@ -73,10 +75,11 @@ pub record AgreeOnBytes (e : Listed) (one two : Machine) : Type 0 where
   pub at : (place : ℕ) → e.may_read place ≡ true → slice_index one.memory place ≡ slice_index two.memory place
   pub off_stack : (place : ℕ) → e.may_read place ≡ true → (place < 256) ⊎ (512 ≤ place)
 
--- two calls take the same number of steps, and leave the same bytes where the blocks may read
+-- two calls take the same number of steps and of clock cycles, and leave the same bytes where the blocks may read
 pub record AreAlike (e : Listed) (one two : Machine) (number other : ℕ) (a : Returns e one number)
     (b : Returns e two other) : Type 0 where
   pub steps : a.steps ≡ b.steps
+  pub cycles : call_cycles one e.entry number a.steps ≡ call_cycles two e.entry other b.steps
   pub bytes : (place : ℕ) → e.may_read place ≡ true →
       slice_index a.after.memory place ≡ slice_index b.after.memory place
 

@@ -2,6 +2,8 @@
 pub mod Entrances
 pub mod Meaning
 pub mod Listed
+-- To believe: how many clock cycles a call takes.
+pub mod Cycles
 -- Claimed: what calls of entrances do.
 pub mod EntranceLaws
 pub mod Homes

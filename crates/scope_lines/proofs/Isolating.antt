@@ -78,7 +78,7 @@ joined_right one two = record { at = at }
     at Again = both_right one.again two.again
     at Stuck = within_itself nothing
 
-then_goes : (one : Ran) (next : Desk → Ran) → (and_then one next).outcome ≢ Stuck → one.outcome ≢ Stuck
+pub then_goes : (one : Ran) (next : Desk → Ran) → (and_then one next).outcome ≢ Stuck → one.outcome ≢ Stuck
 then_goes one next goes stuck =
     goes (subst (λ o. (behind o one next).outcome ≡ Stuck) (sym stuck) stuck)
 
@@ -142,7 +142,7 @@ scope_same {layout = layout} ways name one two goes goes' body = record {
     at Stuck = within_itself nothing
 
 -- each turn of a loop begins alike
-turn_goes : (one : Ran) (next : Desk → Ran) → (next_turn one.outcome one next).outcome ≢ Stuck → one.outcome ≢ Stuck
+pub turn_goes : (one : Ran) (next : Desk → Ran) → (next_turn one.outcome one next).outcome ≢ Stuck → one.outcome ≢ Stuck
 turn_goes one next goes stuck =
     goes (subst (λ o. (next_turn o one next).outcome ≡ Stuck) (sym stuck) stuck)
 

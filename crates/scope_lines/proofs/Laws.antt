@@ -5,6 +5,9 @@ pub use Rattle.scope_lines.proofs.Whole.{lowered_blocks_do}
 pub use Rattle.scope_lines.proofs.Ways.{Ground, HasCode, IsAround, target, Comes}
 pub use Rattle.scope_lines.proofs.Meant.{tree_comes}
 pub use Rattle.scope_lines.proofs.Nearing.{IsNear, nothing_near}
+-- in as many cycles as it takes there, which are the same from desks with the same in what is known
+pub use Rattle.scope_lines.proofs.Whole.{lowered_blocks_take}
+pub use Rattle.scope_lines.proofs.SameCycles.{cycles_are_isolated}
 -- they run at most its weight
 pub use Rattle.scope_lines.proofs.Weighing.{costs_are_bounded}
 -- and do the same from states and desks that have the same in what is known

@@ -1,6 +1,7 @@
 -- Instructions where they stand.
 mod Plain
 mod Stepping
+mod Timing
 -- Lines and trees.
 mod Sizing
 mod Counting
@@ -15,6 +16,7 @@ mod SameEffects
 mod Growing
 mod SameSteps
 mod Isolating
+mod SameCycles
 -- Lines in a listing.
 mod Homes
 -- How the code reads lines.

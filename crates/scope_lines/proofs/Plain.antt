@@ -1,17 +1,20 @@
 -- What a plain instruction does doesn't depend on where it stands.
-use Rattle.std.proofs.Common.{◌≡◌, ℕ, Bool, true, false, Option, refl}
+use Rattle.std.proofs.Common.{◌≡◌, ℕ, Bool, true, false, Option, None, refl}
 use Rattle.std.proofs.lemmas.Bool.{false≢true}
 use Rattle.std.specs.Option.{option_map}
 use Rattle.cpu6502.specs.declared.cpu.Cpu.{Cpu}
 use Rattle.cpu6502.specs.declared.effect.Effect.{Effect}
 use Rattle.cpu6502.specs.declared.mnemonic.Mnemonic.{Mnemonic}
-use Rattle.cpu6502.specs.declared.mnemonic.Mnemonic.TheVariants.{Adc, And, Asl, Bit}
+use Rattle.cpu6502.specs.declared.mnemonic.Mnemonic.TheVariants.{Adc, And, Asl, Bcc, Bcs, Beq, Bit, Bmi, Bne, Bpl, Bvc}
+use Rattle.cpu6502.specs.declared.mnemonic.Mnemonic.TheVariants.{Bvs}
 use Rattle.cpu6502.specs.declared.mnemonic.Mnemonic.TheVariants.{Clc, Clv, Cmp, Cpx, Cpy}
 use Rattle.cpu6502.specs.declared.mnemonic.Mnemonic.TheVariants.{Dec, Dex, Dey, Eor, Inc, Inx, Iny, Lda}
 use Rattle.cpu6502.specs.declared.mnemonic.Mnemonic.TheVariants.{Ldx, Ldy, Lsr, Nop, Ora, Rol}
 use Rattle.cpu6502.specs.declared.mnemonic.Mnemonic.TheVariants.{Ror, Sbc, Sec, Sta, Stx, Sty}
 use Rattle.cpu6502.specs.declared.mnemonic.Mnemonic.TheVariants.{Tax, Tay, Txa, Tya}
 use Rattle.cpu6502.specs.Opcodes.{length_of, is_accumulator}
+use Rattle.cpu6502.specs.Branches.{is_taken}
+use Rattle.cpu6502.specs.Cycles.{is_paged}
 use Rattle.code_runs.specs.Code.{place_of}
 use Rattle.cpu6502.specs.Shifts.{accumulator_effect}
 use Rattle.cpu6502.specs.Effects.{effect_of, or_effect}
@@ -127,3 +130,23 @@ alone_nowhere Lsr memory at cpu = refl
 alone_nowhere Rol memory at cpu = refl
 alone_nowhere Ror memory at cpu = refl
 alone_nowhere _ memory at cpu = refl
+
+-- it is no branch
+pub plain_is_no_branch : (mnemonic : Mnemonic) (cpu : Cpu) → is_plain mnemonic ≡ true → is_taken mnemonic cpu ≡ None
+plain_is_no_branch Bcc cpu plain = absurd (false≢true plain)
+plain_is_no_branch Bcs cpu plain = absurd (false≢true plain)
+plain_is_no_branch Beq cpu plain = absurd (false≢true plain)
+plain_is_no_branch Bmi cpu plain = absurd (false≢true plain)
+plain_is_no_branch Bne cpu plain = absurd (false≢true plain)
+plain_is_no_branch Bpl cpu plain = absurd (false≢true plain)
+plain_is_no_branch Bvc cpu plain = absurd (false≢true plain)
+plain_is_no_branch Bvs cpu plain = absurd (false≢true plain)
+plain_is_no_branch _ cpu plain = refl
+
+-- without an operand it crosses no page
+pub alone_unpaged : (mnemonic : Mnemonic) → is_paged (alone_mode mnemonic) ≡ false
+alone_unpaged Asl = refl
+alone_unpaged Lsr = refl
+alone_unpaged Rol = refl
+alone_unpaged Ror = refl
+alone_unpaged _ = refl

@@ -32,7 +32,7 @@ use Rattle.scope_lines.proofs.SameEffects.{SameEffects, reads_byte, effects_same
 
 -- ---- operands
 
-place_same : {layout : Layout} {before : Known} {one two : Desk} → (operand : Operand) →
+pub place_same : {layout : Layout} {before : Known} {one two : Desk} → (operand : Operand) →
     IsWithin (finds operand) before → Alike layout before one two →
     operand_place layout operand one ≡ operand_place layout operand two
 place_same (Number number) w s = refl

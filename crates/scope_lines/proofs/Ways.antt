@@ -1,7 +1,7 @@
 -- Where the code of lines stands, what is around them, and what single lines do.
 use Rattle.std.proofs.Common.{◌≡◌, ◌≢◌, ℕ, ◌+◌, ◌-◌, ◌%◌, ◌<◌, ◌≤◌, ◌⊎◌, true}
 use Rattle.std.proofs.Common.{false, nat_eq, nat_lt}
-use Rattle.std.proofs.Common.{Option, Some, None, inl, inr, refl, ap, ◌∙◌, subst, arith, ◌||◌}
+use Rattle.std.proofs.Common.{Option, Some, None, inl, inr, refl, sym, ap, ◌∙◌, arith, ◌||◌, Bool, if◌then◌else◌}
 use Rattle.std.proofs.lemmas.Bool.{lt-ltb, le-ltb, or_left, or_right}
 use Rattle.cpu6502.specs.declared.mnemonic.Mnemonic.{Mnemonic}
 use Rattle.cpu6502.specs.declared.mnemonic.Mnemonic.TheVariants.{Jmp}
@@ -12,11 +12,9 @@ use Rattle.cpu6502.specs.Effects.{displacement}
 use Rattle.code_runs.specs.Runs.{State, Leads}
 use Rattle.code_runs.specs.Code.{Stands, SameFrom}
 use Rattle.code_runs.specs.Calls.{In}
-use Rattle.code_runs.specs.Steps.{takes}
-use Rattle.code_runs.proofs.Laws.{goes_once, works, jump_steps, branch_steps, stands_stay, leads_stay}
+use Rattle.code_runs.proofs.Laws.{goes_once, Works, works, jump_steps, branch_steps, stands_stay, leads_stay, ends_at}
+use Rattle.code_runs.proofs.Laws.{Lasts, lasts_to}
 use Rattle.scopes.specs.declared.line.Test.{Test}
-use Rattle.scopes.specs.declared.line.Test.TheVariants.{On, Off}
-use Rattle.scopes.specs.declared.line.Flag.TheVariants.{Zero, Minus, Carry}
 use Rattle.scopes.specs.Desk.{Desk, Layout}
 use Rattle.scopes.specs.declared.line.Operand.{Operand}
 use Rattle.scopes.specs.declared.line.Operand.TheVariants.{Number, Var, Own, Entry, Pointed, Pointer, Register}
@@ -28,7 +26,9 @@ use Rattle.scope_lines.specs.Instructions.{branch_of}
 use Rattle.scope_lines.specs.Lines.{Around, forwards, backwards}
 use Rattle.scope_lines.specs.Reach.{Reach}
 use Rattle.scope_lines.specs.Lowered.{writes_at, spot}
+use Rattle.scope_lines.specs.Cycles.{test_cycles, leave_cycles}
 use Rattle.scope_lines.proofs.Stepping.{IsLaid}
+use Rattle.scope_lines.proofs.Timing.{taken_is, jump_lasts, branch_lasts}
 use Rattle.scope_lines.proofs.Nearing.{IsNear}
 
 -- ---- where the code stands
@@ -64,8 +64,9 @@ target around end (Left name) = around.ends name
 target around end Again = around.head
 target around end Stuck = 0
 
-pub record Comes (g : Ground) (around : Around) (place end : ℕ) (desk : Desk) (r : Ran) : Type 0 where
-  pub leads : Leads (In (writes_at g.layout)) r.cost (spot (g.start + place) desk)
+-- in so many cycles
+pub record Comes (g : Ground) (around : Around) (place end : ℕ) (desk : Desk) (r : Ran) (cycles : ℕ) : Type 0 where
+  pub lasts : Lasts (In (writes_at g.layout)) r.cost cycles (spot (g.start + place) desk)
       (spot (g.start + target around end r.outcome) r.desk)
 
 -- the code stays where nothing writes into it
@@ -98,78 +99,59 @@ small : (n : ℕ) → n < 65536 → n % 65536 ≡ n
 small n h = omega arith
 
 -- an instruction
-pub step_comes : (g : Ground) (around : Around) (place bytes : ℕ) (desk : Desk) (result : Option Desk) →
+pub step_comes : (g : Ground) (around : Around) (place bytes cycles : ℕ) (desk : Desk) (result : Option Desk) →
     (stepped result desk 1).outcome ≢ Stuck →
     ((after : Desk) → result ≡ Some after →
-    Leads (In (writes_at g.layout)) 1 (spot (g.start + place) desk) (spot (g.start + place + bytes) after)) →
-    Comes g around place (place + bytes) desk (stepped result desk 1)
-step_comes g around place bytes desk None runs leads = absurd (runs refl)
-step_comes g around place bytes desk (Some after) runs leads =
+    Lasts (In (writes_at g.layout)) 1 cycles (spot (g.start + place) desk) (spot (g.start + place + bytes) after)) →
+    Comes g around place (place + bytes) desk (stepped result desk 1) cycles
+step_comes g around place bytes cycles desk None runs lasts = absurd (runs refl)
+step_comes g around place bytes cycles desk (Some after) runs lasts =
     let same : g.start + place + bytes ≡ g.start + (place + bytes) = omega arith in
-    record {
-      leads =
-          subst (λ n. Leads (In (writes_at g.layout)) 1 (spot (g.start + place) desk) (spot n after)) same
-          (leads after refl);
-    }
+    record { lasts = lasts_to (ap (λ n. spot n after) same) (lasts after refl) }
 
 -- a jump
 pub jumps : (g : Ground) (at : ℕ → ℕ) (desk : Desk) (place label to : ℕ) → HasCode g desk.at → g.low ≤ g.start + place →
     g.start + (place + 3) ≤ g.high → g.layout.address label ≡ g.start → g.start + to < 65536 →
     Stands g.code (g.start + place) Jmp Absolute ((g.layout.address label + to) % 65536) →
-    Leads (In (writes_at g.layout)) 1 (spot (g.start + place) desk) (spot (g.start + to) desk)
+    Lasts (In (writes_at g.layout)) 1 leave_cycles (spot (g.start + place) desk) (spot (g.start + to) desk)
 jumps g at desk place label to has low high is fits s =
     let ends = g.ends in
     let away = g.away in
     let goal : (g.layout.address label + to) % 65536 ≡ g.start + to = rw is (small (g.start + to) fits) in
-    goes_once
+    let here = stands_here g desk.at (g.start + place) _ Jmp Absolute has low (omega arith) s in
+    jump_lasts desk (g.start + place) _ (g.start + to) here
+    (goes_once
     (jump_steps.jmp
-    (works (g.start + to) (g.start + place + 3)
-    (stands_here g desk.at (g.start + place) _ Jmp Absolute has low (omega arith) s) refl goal
-    (small (g.start + place + 3) (omega arith)) (omega arith)))
+    (works (g.start + to) (g.start + place + 3) here refl goal (small (g.start + place + 3) (omega arith))
+    (omega arith))))
 
--- which branch a test is
-takes_test : (test : Test) (pc : ℕ) (desk : Desk) →
-    takes (branch_of test) (record desk.cpu { pc = pc }) ≡ Some (is_met test desk)
-takes_test (On Zero) pc desk = refl
-takes_test (Off Zero) pc desk = refl
-takes_test (On Minus) pc desk = refl
-takes_test (Off Minus) pc desk = refl
-takes_test (On Carry) pc desk = refl
-takes_test (Off Carry) pc desk = refl
-
--- a branch that is taken, and one that is passed
+-- a branch, taken or passed
 pub branches : (g : Ground) (desk : Desk) (place to displaced : ℕ) (test : Test) → HasCode g desk.at →
     g.low ≤ g.start + place → g.start + (place + 2) ≤ g.high →
     (g.start + place + 2 + displacement displaced) % 65536 ≡ g.start + to →
     Stands g.code (g.start + place) (branch_of test) Relative ((g.start + place + 2 + displacement displaced) % 65536) →
-    is_met test desk ≡ true →
-    Leads (In (writes_at g.layout)) 1 (spot (g.start + place) desk) (spot (g.start + to) desk)
-branches g desk place to displaced test has low high goal s met =
+    Lasts (In (writes_at g.layout)) 1
+    (test_cycles (is_met test desk) (g.start + (place + 2)) (g.start + to)) (spot (g.start + place) desk)
+    (spot (g.start + (if is_met test desk then to else place + 2)) desk)
+branches g desk place to displaced test has low high goal s =
     let ends = g.ends in
     let away = g.away in
-    goes_once
-    (branch_steps.taken
-    (works (g.start + to) (g.start + place + 2)
-    (stands_here g desk.at (g.start + place) _ (branch_of test) Relative has low (omega arith) s) refl goal
-    (small (g.start + place + 2) (omega arith)) (omega arith))
-    (takes_test test (g.start + place) desk ∙ ap Some met))
-
-pub passes : (g : Ground) (desk : Desk) (place displaced : ℕ) (test : Test) → HasCode g desk.at →
-    g.low ≤ g.start + place → g.start + (place + 2) ≤ g.high →
-    Stands g.code (g.start + place) (branch_of test) Relative ((g.start + place + 2 + displacement displaced) % 65536) →
-    is_met test desk ≡ false →
-    Leads (In (writes_at g.layout)) 1 (spot (g.start + place) desk) (spot (g.start + (place + 2)) desk)
-passes g desk place displaced test has low high s unmet =
-    let ends = g.ends in
-    let away = g.away in
-    let same : g.start + place + 2 ≡ g.start + (place + 2) = omega arith in
-    subst (λ n. Leads (In (writes_at g.layout)) 1 (spot (g.start + place) desk) (spot n desk)) same
-    (goes_once
-    (branch_steps.passed
-    (works ((g.start + place + 2 + displacement displaced) % 65536) (g.start + place + 2)
-    (stands_here g desk.at (g.start + place) _ (branch_of test) Relative has low (omega arith) s) refl refl
-    (small (g.start + place + 2) (omega arith)) (omega arith))
-    (takes_test test (g.start + place) desk ∙ ap Some unmet)))
+    let here = stands_here g desk.at (g.start + place) _ (branch_of test) Relative has low (omega arith) s in
+    let next : (g.start + place + 2) % 65536 ≡ g.start + (place + 2) = omega arith in
+    let w = works (g.start + to) (g.start + (place + 2)) here refl goal next (omega arith) in
+    branch_lasts desk (g.start + place) (g.start + (place + 2)) _ (g.start + to)
+    (g.start + (if is_met test desk then to else place + 2)) test here next goal (by_test w (is_met test desk) refl)
+  where
+    by_test : Works (spot (g.start + place) desk) (branch_of test) (g.start + to) (g.start + (place + 2)) → (z : Bool) →
+        is_met test desk ≡ z →
+        Leads (In (writes_at g.layout)) 1 (spot (g.start + place) desk)
+        (spot (g.start + (if is_met test desk then to else place + 2)) desk)
+    by_test w true met =
+        ends_at (ap (λ z. spot (g.start + (if z then to else place + 2)) desk) (sym met))
+        (goes_once (branch_steps.taken w (taken_is test (g.start + place) desk ∙ ap Some met)))
+    by_test w false unmet =
+        ends_at (ap (λ z. spot (g.start + (if z then to else place + 2)) desk) (sym unmet))
+        (goes_once (branch_steps.passed w (taken_is test (g.start + place) desk ∙ ap Some unmet)))
 
 -- displacements
 pub forwards_goes : (start place to : ℕ) → place + 2 ≤ to → to ≤ place + 2 + 127 → start + to < 65536 →

@@ -1,9 +1,9 @@
 -- Lowered blocks do what they mean.
 use Rattle.std.proofs.Common.{◌≡◌, ◌≢◌, ℕ, ◌+◌, refl, sym, ap, subst, ◌∙◌, arith}
 use Rattle.cpu6502.proofs.Laws.{opcodes_have_rows}
-use Rattle.code_runs.specs.Runs.{State, Leads}
+use Rattle.code_runs.specs.Runs.{State}
 use Rattle.code_runs.specs.Calls.{In}
-use Rattle.code_runs.proofs.Laws.{begins_at}
+use Rattle.code_runs.proofs.Laws.{Lasts, lasts_to}
 use Rattle.asm6502.specs.Lines.{kept, size_of}
 use Rattle.asm6502.specs.Assembly.{assembled_bytes}
 use Rattle.asm6502.specs.Standing.{LinesAt}
@@ -15,6 +15,7 @@ use Rattle.scope_lines.specs.Lines.{Around, block_around}
 use Rattle.scope_lines.specs.Reach.{nothing_around}
 use Rattle.scope_lines.specs.Lowered.{Site, lines_at, listing_at, low_at, high_at, layout_at, writes_at, desk_of, spot, meant}
 use Rattle.scope_lines.specs.Lowered.{IsWellPlaced, Enters, LoweredBlocksDo}
+use Rattle.scope_lines.specs.Cycles.{block_cycles, LoweredBlocksTake}
 use Rattle.scope_lines.proofs.Sizing.{lines_size, lines_kept}
 use Rattle.scope_lines.proofs.Nearing.{nothing_near}
 use Rattle.scope_lines.proofs.Ways.{Ground, IsAround, target}
@@ -70,11 +71,17 @@ at_spot : (state : State) (pc : ℕ) → state.cpu.pc ≡ pc → spot pc (desk_o
 at_spot state pc e =
     ap (λ q. (let s : State = record { cpu = record state.cpu { pc = q }; at = state.at } in s)) (sym e)
 
-pub lowered_blocks_do : LoweredBlocksDo
-lowered_blocks_do site state placed enters done =
+record Way (site : Site) (state : State) : Type 0 where
+  lasts : Lasts (In (writes_at (layout_at site))) (meant site state).cost (block_cycles site state) state
+      (spot (high_at site) (meant site state).desk)
+
+block_goes : (site : Site) (state : State) → IsWellPlaced site → Enters site state →
+    (meant site state).outcome ≡ Done → Way site state
+block_goes site state placed enters done =
     let g = site_ground site state.at placed in
     let around = around_site site in
     let r = meant site state in
+    let c = block_cycles site state in
     let begins = placed.begins in
     let sized = lines_size around site.first site.tree in
     let end = site.first + size site.holds site.tree in
@@ -86,12 +93,22 @@ lowered_blocks_do site state placed enters done =
     tree_comes g around nothing_around site.tree site.first (desk_of state) placed.lines
     (nothing_is_around site state.at placed end) (omega (arith, begins)) (omega (arith, ends))
     (record { same = λ q low high. refl }) stands (done_runs r.outcome done) in
-    let there : Leads (In (writes_at (layout_at site))) r.cost (spot (g.start + site.first) (desk_of state))
+    let there : Lasts (In (writes_at (layout_at site))) r.cost c (spot (g.start + site.first) (desk_of state))
     (spot (g.start + end) r.desk) =
-    subst (λ o. Leads (In (writes_at (layout_at site))) r.cost (spot (g.start + site.first) (desk_of state))
-    (spot (g.start + target around end o) r.desk)) done way.leads in
+    subst (λ o. Lasts (In (writes_at (layout_at site))) r.cost c (spot (g.start + site.first) (desk_of state))
+    (spot (g.start + target around end o) r.desk)) done way.lasts in
     let here : spot (g.start + site.first) (desk_of state) ≡ state =
     ap (λ q. spot q (desk_of state)) begins ∙ at_spot state (low_at site) enters.pc in
-    begins_at here (subst (λ q. Leads (In (writes_at (layout_at site))) r.cost
-    (spot (g.start + site.first) (desk_of state))
-    (spot q r.desk)) ends there)
+    record {
+      lasts =
+          subst (λ s. Lasts (In (writes_at (layout_at site))) r.cost c s (spot (high_at site) r.desk)) here
+          (lasts_to (ap (λ q. spot q r.desk) ends) there);
+    }
+
+pub lowered_blocks_do : LoweredBlocksDo
+lowered_blocks_do site state placed enters done = (block_goes site state placed enters done).lasts.leads
+
+-- ---- in as many cycles
+
+pub lowered_blocks_take : LoweredBlocksTake
+lowered_blocks_take site state placed enters done = (block_goes site state placed enters done).lasts.takes

@@ -6,8 +6,9 @@ pub mod Reach
 pub mod Lowered
 -- To believe: which registers are known where a tree comes to.
 pub mod Known
--- Claimed: what a block rests on, how much it weighs, and that no line of it is refused.
+-- Claimed: what a block rests on, how many cycles it takes, how much it weighs, and that no line of it is refused.
 pub mod Isolation
+pub mod Cycles
 pub mod Weights
 pub mod Homes
 -- Worked: sites and trees that are worked by hand.

@@ -1,5 +1,6 @@
 //! Facts about the definitions, each the contract of a function that does nothing.
 
+ghost use Rattle.scope_lines.specs.Cycles.{CyclesAreIsolated, LoweredBlocksTake};
 ghost use Rattle.scope_lines.specs.Homes.{LoweredLinesAreAtHome, LoweredLinesAreNotRefused};
 ghost use Rattle.scope_lines.specs.Isolation.{TreesAreIsolated, LoweredBlocksAreIsolated};
 ghost use Rattle.scope_lines.specs.Lines.{LinesTakeSize};
@@ -13,6 +14,13 @@ ghost use Rattle.scope_lines.specs.WorkedSites.{SoughtIsLowered, SummedIsLowered
 /// listing that assembles around them.
 pub fn lowered_blocks_do()
     ensures { LoweredBlocksDo }
+{}
+
+/// They take as many clock cycles as the block's tree says of where it stands and of what is there. These are the same
+/// from any two states that have the same in what the tree reads.
+pub fn lowered_blocks_take_cycles()
+    ensures blocks { LoweredBlocksTake }
+    ensures isolated { CyclesAreIsolated }
 {}
 
 /// A tree that reads the registers that are known alone does the same whatever was in the others and in the places that

@@ -1,0 +1,8 @@
+use Rattle.cpu6502.proofs.Columns.{rows_have_these_cycles, effects_take_cycles}
+use Rattle.cpu6502.proofs.claims.cycles_are_the_manuals.Goals as goal
+
+pub returns-clause-rows : goal.returns-clause-rows
+returns-clause-rows c = rows_have_these_cycles
+
+pub returns-clause-effects : goal.returns-clause-effects
+returns-clause-effects c = effects_take_cycles
