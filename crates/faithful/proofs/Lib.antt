@@ -9,6 +9,7 @@ mod LoadedCalls
 -- Small images, which are worked: their routines, their calls, the silent song, those that play it, and others.
 mod Waiting
 mod Routines
+mod PlainRoutines
 mod SmallImages
 mod SilentFrames
 mod RightImages

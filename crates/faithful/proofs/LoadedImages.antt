@@ -20,7 +20,7 @@ use Rattle.code_runs.proofs.Laws.{entry_kept}
 use Rattle.sid_run.specs.State.{sid_registers}
 use Rattle.faithful.specs.Faithful.{Leaves, AgreesOn, LeavesAndGoesOn}
 use Rattle.faithful.specs.Histories.{ImageCall, Init, Play, entry_of}
-use Rattle.faithful.specs.Isolation.{EndAlike, IsIsolated}
+use Rattle.faithful.specs.Isolation.{duration, EndAlike, IsIsolated}
 use Rattle.faithful.specs.Timers.{SetsTimer, KeepsTimer}
 use Rattle.faithful.specs.Routines.{Op, image_of}
 use Rattle.faithful.specs.WorkedMachines.{machine_with}
@@ -269,8 +269,8 @@ module _ (init play : List Op) (passed : passes init play ≡ true) where
         (ended other 0x1003 number play)
     other_play = ran other Play number is held sp
 
-    pub plays_alike : EndAlike image 0x1000 (call_steps zeros 0x1003 0 play) (call_steps other 0x1003 number play)
-        one_play.after other_play.after
+    pub plays_alike : EndAlike image 0x1000 (duration zeros 0x1003 0 (call_steps zeros 0x1003 0 play))
+        (duration other 0x1003 number (call_steps other 0x1003 number play)) one_play.after other_play.after
     plays_alike =
         let c = ran zeros (Init 0) 0 zeros_is zeros_hold refl in
         let last = held_on outside c.after 0 (call_steps zeros 0x1000 0 init) c.called in

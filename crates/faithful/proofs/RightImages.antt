@@ -26,13 +26,14 @@ use Rattle.sid_run.specs.State.{sid_registers}
 use Rattle.faithful.specs.Confined.{IsOwnPlace}
 use Rattle.faithful.specs.Faithful.{AgreesOn}
 use Rattle.faithful.specs.Histories.{ImageCall, Init, Play, entry_of, IsMade, LeadTo, since_init, MindsTimer, PlaysAlways}
-use Rattle.faithful.specs.Isolation.{IsIsolated}
+use Rattle.faithful.specs.Isolation.{Duration, duration, IsIsolated}
 use Rattle.faithful.specs.Timers.{timer_low, timer_high}
 use Rattle.faithful.specs.Routines.{Op, image_of}
 use Rattle.faithful.proofs.LoadedCalls.{and_true, one_end}
 use Rattle.faithful.proofs.Always.{own_places_are_few}
 use Rattle.faithful.proofs.Routines.{all_done, step_count, EachStore, IsSafe, begun, ended, call_steps, others_stay}
-use Rattle.faithful.proofs.SmallImages.{Fits, ops_of, stores_pass, each_store, small_call}
+use Rattle.faithful.proofs.PlainRoutines.{are_plain, ops_cycles}
+use Rattle.faithful.proofs.SmallImages.{Fits, ops_of, stores_pass, each_store, small_call, small_takes}
 
 -- ---- own places
 
@@ -126,6 +127,8 @@ pub record LeavesSo (ops : List Op) (steps : ℕ) (registers : List ℕ) : Type 
 
 pub record IsRight (o : Options) (song : Song) (init play : List Op) (steps more : ℕ) : Type 0 where
   pub fits : Fits init play
+  pub plain_init : are_plain init ≡ true
+  pub plain_play : are_plain play ≡ true
   pub few : (steps ≤ 100) × (more ≤ 100)
   pub init_ports : stores_pass (is_port o) init ≡ true
   pub play_ports : stores_pass (is_port o) play ≡ true
@@ -258,6 +261,30 @@ module _ (o : Options) (song : Song) (init play : List Op) (steps more : ℕ) (r
   call_takes machine call number =
       ap (λ n. suc (n + 1)) ((leaves call).steps_are (begun machine (entry_of 0x1000 call) number))
 
+  -- as long as any such call
+  plain : (call : ImageCall) → are_plain (ops_of init play call) ≡ true
+  plain (Init k) = right.plain_init
+  plain Play = right.plain_play
+
+  took_so : (machine : Machine) (call : ImageCall) (number n : ℕ) (after : Machine) → IsMachine machine →
+      Holds machine.memory 0x1000 image → Called machine (entry_of 0x1000 call) number n after →
+      duration machine (entry_of 0x1000 call) number n
+      ≡ record { steps = suc (steps_of steps more call + 1); cycles = 3 + (ops_cycles (ops_of init play call) + 6) }
+  took_so machine call number n after is held called =
+      let c = calls machine call number is held in
+      let k = call_steps machine (entry_of 0x1000 call) number (ops_of init play call) in
+      let same = called_once machine (entry_of 0x1000 call) number n k after c.after called c.called in
+      let cycles =
+      c.takes
+      ∙ small_takes (Own machine) init play right.fits machine call number is held
+      (each_store (IsSafe (Own machine) machine.cpu.sp) (is_port o)
+      (port_safe o (length image) machine.cpu.sp ((machine.cpu.sp + 254) % 256)) (ops_of init play call) (ports call))
+      (plain call) in
+      ap (λ m. duration machine (entry_of 0x1000 call) number m) same
+      ∙ (ap (λ m. (let d : Duration = record { steps = k; cycles = m } in d)) cycles
+      ∙ ap (λ m. (let d : Duration = record { steps = m; cycles = 3 + (ops_cycles (ops_of init play call) + 6) } in d))
+      (call_takes machine call number))
+
   few_steps : (call : ImageCall) (n : ℕ) → n ≡ suc (steps_of steps more call + 1) → n ≤ 60000
   few_steps (Init k) n e = (let few = right.few.0 in omega (arith, e, few))
   few_steps Play n e = (let few = right.few.1 in omega (arith, e, few))
@@ -343,13 +370,8 @@ module _ (o : Options) (song : Song) (init play : List Op) (steps more : ℕ) (r
         let c = calls one call number is held in
         let c' = calls two call other is' held' in
         record {
-          same_steps =
-              called_once one (entry_of 0x1000 call) number n
-              (call_steps one (entry_of 0x1000 call) number (ops_of init play call)) after c.after called c.called
-              ∙ call_takes one call number
-              ∙ sym (call_takes two call other)
-              ∙ sym (called_once two (entry_of 0x1000 call) other n'
-              (call_steps two (entry_of 0x1000 call) other (ops_of init play call)) after' c'.after called' c'.called);
+          same_duration =
+              took_so one call number n after is held called ∙ sym (took_so two call other n' after' is' held' called');
           same_registers =
               registers_are one after call number n is held called
               ∙ sym (registers_are two after' call other n' is' held' called');

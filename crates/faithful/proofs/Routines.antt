@@ -53,7 +53,7 @@ step_count [] s = 0
 step_count (op ∷ ops) s = steps_on op s (step_count ops (done op s))
 
 -- where its RTS stands
-abbrev behind : ℕ → Op → ℕ
+abbrev pub behind : ℕ → Op → ℕ
 behind pc (LoadA byte) = pc + 1 + 1
 behind pc (LoadX byte) = pc + 1 + 1
 behind pc (FetchA place) = pc + 1 + 1 + 1
@@ -62,7 +62,7 @@ behind pc (StoreX place) = pc + 1 + 1 + 1
 behind pc SkipNop = pc + 1 + 1 + 1
 behind pc (Wait turns) = pc + 1 + 1 + 1 + 1 + 1 + 1 + 1 + 1 + 1 + 1 + 1 + 1
 
-abbrev end_at : ℕ → List Op → ℕ
+abbrev pub end_at : ℕ → List Op → ℕ
 end_at pc [] = pc
 end_at pc (op ∷ ops) = end_at (behind pc op) ops
 
@@ -95,7 +95,7 @@ differs : (pc place : ℕ) → 0x1006 ≤ pc → pc < 0x2000 → (place < 0x1006
 differs pc place from below (inl low) e = omega arith
 differs pc place from below (inr high) e = omega arith
 
-bytes_stay : (at : ℕ → ℕ) (place byte pc : ℕ) (bytes : List ℕ) → 0x1006 ≤ pc → (place < 0x1006) ⊎ (0x2000 ≤ place) →
+pub bytes_stay : (at : ℕ → ℕ) (place byte pc : ℕ) (bytes : List ℕ) → 0x1006 ≤ pc → (place < 0x1006) ⊎ (0x2000 ≤ place) →
     BytesStand at pc bytes → BytesStand (put at place byte) pc bytes
 bytes_stay at place byte pc [] from apart has = tt
 bytes_stay at place byte pc (first ∷ bytes) from apart has = (
@@ -121,7 +121,7 @@ others_stay P (SkipNop ∷ ops) s q each out = others_stay P ops s q each out
 others_stay P (Wait turns ∷ ops) s q each out = others_stay P ops (done (Wait turns) s) q each out
 
 -- so is the stack pointer
-same_sp : (ops : List Op) (s : State) → (all_done ops s).cpu.sp ≡ s.cpu.sp
+pub same_sp : (ops : List Op) (s : State) → (all_done ops s).cpu.sp ≡ s.cpu.sp
 same_sp [] s = refl
 same_sp (LoadA byte ∷ ops) s = same_sp ops (done (LoadA byte) s)
 same_sp (LoadX byte ∷ ops) s = same_sp ops (done (LoadX byte) s)
@@ -133,17 +133,17 @@ same_sp (Wait turns ∷ ops) s = same_sp ops (done (Wait turns) s)
 
 -- ---- its instructions
 
-abbrev at_pc : ℕ → State → State
+abbrev pub at_pc : ℕ → State → State
 at_pc pc s = record { cpu = jumped s.cpu pc; at = s.at }
 
-absolute : (at : ℕ → ℕ) (pc opcode place : ℕ) (mn : Mnemonic) → at pc ≡ opcode →
+pub absolute : (at : ℕ → ℕ) (pc opcode place : ℕ) (mn : Mnemonic) → at pc ≡ opcode →
     meaning_of opcode ≡ Some (mn, Absolute) → at (pc + 1) ≡ place % 256 → at (pc + 1 + 1) ≡ place / 256 →
     pc < 0x2000 → Stands at pc mn Absolute place
 absolute at pc opcode place mn e m low high below =
     stands_absolute at pc opcode (pc + 1) (pc + 1 + 1) (place % 256) (place / 256) place mn e m (omega arith)
     (omega arith) low high (omega arith)
 
-load_a : (s : State) (pc byte : ℕ) → 0x1006 ≤ pc → pc < 0x2000 → s.at pc ≡ 0xA9 → s.at (pc + 1) ≡ byte →
+pub load_a : (s : State) (pc byte : ℕ) → 0x1006 ≤ pc → pc < 0x2000 → s.at pc ≡ 0xA9 → s.at (pc + 1) ≡ byte →
     Goes (at_pc pc s) (jumped (with_a s.cpu byte) (pc + 1 + 1))
 load_a s pc byte from below e b =
     lda
@@ -173,7 +173,7 @@ fetch_a s pc place from below e low high =
     (works {at = s.at} {cpu = jumped s.cpu pc} place (pc + 1 + 1 + 1) (absolute s.at pc 0xAD place Lda e refl low high below)
     refl refl (omega arith) (omega arith)) refl)
 
-store_a : (s : State) (pc place : ℕ) → 0x1006 ≤ pc → pc < 0x2000 → s.at pc ≡ 0x8D → s.at (pc + 1) ≡ place % 256 →
+pub store_a : (s : State) (pc place : ℕ) → 0x1006 ≤ pc → pc < 0x2000 → s.at pc ≡ 0x8D → s.at (pc + 1) ≡ place % 256 →
     s.at (pc + 1 + 1) ≡ place / 256 →
     Puts (at_pc pc s) (jumped s.cpu (pc + 1 + 1 + 1)) place s.cpu.a
 store_a s pc place from below e low high =
@@ -304,7 +304,7 @@ passes_one W sp pc (Wait turns) ops s from has each =
     few_turns : (turns : ℕ) → turns % 256 < 256
     few_turns turns = omega arith
 
-passes : (W : ℕ → Type 0) (sp pc : ℕ) (ops : List Op) (s : State) → 0x1006 ≤ pc →
+pub passes : (W : ℕ → Type 0) (sp pc : ℕ) (ops : List Op) (s : State) → 0x1006 ≤ pc →
     BytesStand s.at pc (routine ops) → EachStore (IsSafe W sp) ops → Passes W pc ops s
 passes W sp pc [] s from has each = record { leads = stay _; back = has.0; from = from; below = has.1 }
 passes W sp pc (op ∷ ops) s from has each =
@@ -340,11 +340,11 @@ pub record HasRoutine (at : ℕ → ℕ) (entry target : ℕ) (ops : List Op) : 
   pub from : 0x1006 ≤ target
   pub bytes : BytesStand at target (routine ops)
 
-back_sp : (sp : ℕ) → sp < 256 → ((sp + 254) % 256 + 2) % 256 ≡ sp
+pub back_sp : (sp : ℕ) → sp < 256 → ((sp + 254) % 256 + 2) % 256 ≡ sp
 back_sp sp few = omega arith
 
 -- the return address is still there
-pulls_stay : (W : ℕ → Type 0) (machine : Machine) (entry number : ℕ) (ops : List Op) →
+pub pulls_stay : (W : ℕ → Type 0) (machine : Machine) (entry number : ℕ) (ops : List Op) →
     length machine.memory ≡ MEMORY_SIZE → EachStore (IsSafe W machine.cpu.sp) ops →
     Pulls (all_done ops (begun machine entry number)).at ((machine.cpu.sp + 254) % 256) 255 255
 pulls_stay W machine entry number ops size each =
@@ -367,7 +367,7 @@ pulls_stay W machine entry number ops size each =
     second : (sp : ℕ) → stack_place ((sp + 254) % 256 + 2) ≡ stack_place sp
     second sp = omega arith
 
-returns_so : {W : ℕ → Type 0} (s : State) (pc sp : ℕ) → s.at pc ≡ 0x60 → 0x1006 ≤ pc → Pulls s.at s.cpu.sp 255 255 →
+pub returns_so : {W : ℕ → Type 0} (s : State) (pc sp : ℕ) → s.at pc ≡ 0x60 → 0x1006 ≤ pc → Pulls s.at s.cpu.sp 255 255 →
     (s.cpu.sp + 2) % 256 ≡ sp →
     Leads W 1 (at_pc pc s) (record { cpu = record s.cpu { pc = 0; sp = sp }; at = s.at })
 returns_so s pc sp e from pulls back =

@@ -4,12 +4,14 @@ use Rattle.std.proofs.Common.{◌∷◌, ◌++◌, length, slice_index, lit<, li
 use Rattle.cpu6502.specs.declared.machine.Machine.{Machine}
 use Rattle.cpu6502.specs.declared.mnemonic.Mnemonic.TheVariants.{Jmp}
 use Rattle.cpu6502.specs.Code.{IsMachine, Holds}
+use Rattle.code_runs.specs.Runs.{cycles_from}
 use Rattle.code_runs.specs.Calls.{IsBelow, CallsTo}
 use Rattle.code_runs.proofs.Laws.{stands_absolute, entry_kept}
 use Rattle.faithful.specs.Histories.{ImageCall, Init, Play, entry_of}
 use Rattle.faithful.specs.Routines.{Op, LoadA, LoadX, FetchA, StoreA, StoreX, SkipNop, Wait, routine, image_with, image_of}
 use Rattle.faithful.proofs.LoadedCalls.{and_true, are_bytes}
 use Rattle.faithful.proofs.Routines.{EachStore, IsSafe, BytesStand, begun, ended, call_steps, HasRoutine, routine_is_called}
+use Rattle.faithful.proofs.PlainRoutines.{are_plain, ops_cycles, routine_takes}
 
 -- ---- where routines stand
 
@@ -134,3 +136,15 @@ small_call W below init play fits machine call number is held each =
     is.sp
     (has_routine init play (begun machine (entry_of 0x1000 call) number).at call
     (image_stands init play machine (entry_of 0x1000 call) number fits is held)) each
+
+-- its cycles, where the routine loads and stores alone
+pub small_takes : (W : ℕ → Type 0) (init play : List Op) → Fits init play → (machine : Machine)
+    (call : ImageCall) (number : ℕ) → IsMachine machine → Holds machine.memory 0x1000 (image_of init play) →
+    EachStore (IsSafe W machine.cpu.sp) (ops_of init play call) → are_plain (ops_of init play call) ≡ true →
+    cycles_from (call_steps machine (entry_of 0x1000 call) number (ops_of init play call))
+    (begun machine (entry_of 0x1000 call) number)
+    ≡ 3 + (ops_cycles (ops_of init play call) + 6)
+small_takes W init play fits machine call number is held each plain =
+    routine_takes W machine (entry_of 0x1000 call) number (target_of init call) (ops_of init play call) is.size is.sp
+    (has_routine init play (begun machine (entry_of 0x1000 call) number).at call
+    (image_stands init play machine (entry_of 0x1000 call) number fits is held)) each plain

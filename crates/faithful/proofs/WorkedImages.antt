@@ -12,6 +12,8 @@ use Rattle.faithful.proofs.SilentFrames.{silent_trace, two_traces}
 right_at_one : IsRight no_options silence (leave 0) (leave 15) 27 27
 right_at_one = record {
   fits = record { room = lit≤ tt; bytes = refl };
+  plain_init = refl;
+  plain_play = refl;
   few = (lit≤ tt, lit≤ tt);
   init_ports = refl;
   play_ports = refl;
@@ -25,6 +27,8 @@ right_at_one = record {
 right_at_two : IsRight twice silence timed (leave 15) 31 27
 right_at_two = record {
   fits = record { room = lit≤ tt; bytes = refl };
+  plain_init = refl;
+  plain_play = refl;
   few = (lit≤ tt, lit≤ tt);
   init_ports = refl;
   play_ports = refl;
@@ -38,6 +42,8 @@ right_at_two = record {
 right_on_ntsc : IsRight twice_on_ntsc silence timed_for_ntsc (leave 15) 31 27
 right_on_ntsc = record {
   fits = record { room = lit≤ tt; bytes = refl };
+  plain_init = refl;
+  plain_play = refl;
   few = (lit≤ tt, lit≤ tt);
   init_ports = refl;
   play_ports = refl;
@@ -51,6 +57,8 @@ right_on_ntsc = record {
 right_for_both : IsRight no_options two_silences (leave 0) (leave 15) 27 27
 right_for_both = record {
   fits = right_at_one.fits;
+  plain_init = right_at_one.plain_init;
+  plain_play = right_at_one.plain_play;
   few = right_at_one.few;
   init_ports = right_at_one.init_ports;
   play_ports = right_at_one.play_ports;

@@ -7,6 +7,7 @@ use Rattle.play_model.specs.State.{no_options}
 use Rattle.sid_run.specs.State.{loaded_memory, sid_registers}
 use Rattle.faithful.specs.Confined.{IsOwnPlace, memory_at_entry}
 use Rattle.faithful.specs.WorkedPlaces.{IsOwn, twice}
+use Rattle.faithful.specs.Isolation.{Duration}
 use Rattle.faithful.specs.WorkedMachines.{machine_with, with_byte, caller, MayChange, sixteen, Agrees, EndsAlike}
 use Rattle.faithful.specs.WorkedMachines.{TimersAreTold, ChangesAreTold, PairsAreTold}
 use Rattle.faithful.proofs.WorkedPlaces.{is_own, not_own}
@@ -83,13 +84,14 @@ pairs_are_told = record {
   last = λ h. (let e : 1 ≡ 0x60 = h.same 15 (lit< tt) in omega arith);
   behind = agrees_beside 0x1010 (λ k lt e. omega arith);
   elsewhere = record {
-    same_steps = refl;
+    same_duration = refl;
     same_registers = refl;
     same_image = agrees_beside 0x0400 (λ k lt e. omega arith);
   };
   register = λ h. (let e : 0 ≡ 1 = same_register 0xD400 0 h in omega arith);
   volume = λ h. (let e : 0 ≡ 1 = same_register 0xD418 24 h in omega arith);
   in_image = λ h. (let e : 1 ≡ 0x60 = h.same_image.same 15 (lit< tt) in omega arith);
-  steps = λ h. (let e : 5 ≡ 6 = h.same_steps in omega arith);
+  steps = λ h. (let e : 5 ≡ 6 = ap (λ (d : Duration). d.steps) h.same_duration in omega arith);
+  cycles = λ h. (let e : 17 ≡ 18 = ap (λ (d : Duration). d.cycles) h.same_duration in omega arith);
   most = refl;
 }

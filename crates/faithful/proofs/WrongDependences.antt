@@ -1,11 +1,12 @@
 -- Small images that don't stand alone: what their calls do depends on a byte outside, or on the number of a play.
 use Rattle.std.proofs.Common.{◌≡◌, ℕ, ◌+◌, ◌<◌, true, List, [], ◌∷◌, ◌++◌, lit<, refl}
-use Rattle.std.proofs.Common.{◌∙◌, arith, length-set}
+use Rattle.std.proofs.Common.{ap, ◌∙◌, arith, length-set}
 use Rattle.std.proofs.lemmas.List.{get_or-set_other}
 use Rattle.std.proofs.lemmas.List.Elements.{All-set}
 use Rattle.cpu6502.specs.declared.machine.Machine.{Machine}
 use Rattle.cpu6502.specs.Code.{IsMachine, Holds}
 use Rattle.sid_run.specs.State.{loaded_memory}
+use Rattle.faithful.specs.Isolation.{Duration}
 use Rattle.faithful.specs.Routines.{Op, FetchA, StoreA, SkipNop, image_of}
 use Rattle.faithful.specs.WorkedMachines.{machine_with, with_byte}
 use Rattle.faithful.specs.WorkedImages.{clear, leave, StandsAlone, DependencesAreTold}
@@ -65,8 +66,9 @@ unfolding loaded_memory
 play_by_steps isolated =
     let play = leave 15 ++ FetchA 0x0400 ∷ SkipNop ∷ [] in
     unequal 31 32 refl
+    (ap (λ (d : Duration). d.steps)
     (plays_alike (leave 0) play refl refl isolated (other (leave 0) play refl) 0 (is (leave 0) play refl)
-    (held (leave 0) play refl) refl (lit< tt)).same_steps
+    (held (leave 0) play refl) refl (lit< tt)).same_duration)
 
 play_by_image : ¬ StandsAlone (leave 0) (leave 15 ++ FetchA 0x0400 ∷ StoreA 0x1000 ∷ [])
 unfolding loaded_memory

@@ -2,15 +2,25 @@
 use Rattle.std.specs.Prelude.{◌≡◌, ◌≢◌, ℕ, List, ◌∷◌, None}
 use Rattle.song_model.specs.declared.songs.Song.{Song}
 use Rattle.cpu6502.specs.declared.machine.Machine.{Machine}
-use Rattle.cpu6502.specs.Call.{Called}
+use Rattle.cpu6502.specs.Call.{Called, call_cycles}
 use Rattle.cpu6502.specs.Code.{IsMachine}
 use Rattle.sid_run.specs.State.{sid_registers}
 use Rattle.faithful.specs.Faithful.{AgreesOn}
 use Rattle.faithful.specs.Histories.{ImageCall, entry_of, IsMade, LeadTo, since_init}
 
--- calls from two machines that return took as many steps, and left the same in the SID's registers and in the image
-pub record EndAlike (image : List ℕ) (address : ℕ) (steps other : ℕ) (one two : Machine) : Type 0 where
-  pub same_steps : steps ≡ other
+-- how long a call took: its steps, and their clock cycles
+pub record Duration : Type 0 where
+  pub steps : ℕ
+  pub cycles : ℕ
+
+-- that of a call in so many steps
+abbrev pub duration : Machine → ℕ → ℕ → ℕ → Duration
+duration machine entry number steps = record { steps = steps; cycles = call_cycles machine entry number steps }
+
+-- calls from two machines that return took as many steps and as many cycles, and left the same in the SID's registers and
+-- in the image
+pub record EndAlike (image : List ℕ) (address : ℕ) (took other : Duration) (one two : Machine) : Type 0 where
+  pub same_duration : took ≡ other
   pub same_registers : sid_registers one ≡ sid_registers two
   pub same_image : AgreesOn image address one two
 
@@ -23,4 +33,5 @@ pub record IsIsolated (image : List ℕ) (address : ℕ) (song : Song) : Type 0 
       IsMachine two → AgreesOn image address before two → IsMade song call other →
       (steps : ℕ) (after : Machine) → Called one (entry_of address call) number steps after →
       (steps' : ℕ) (after' : Machine) → Called two (entry_of address call) other steps' after' →
-      EndAlike image address steps steps' after after'
+      EndAlike image address (duration one (entry_of address call) number steps)
+      (duration two (entry_of address call) other steps') after after'

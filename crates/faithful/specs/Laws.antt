@@ -11,7 +11,7 @@ use Rattle.cpu6502.specs.Code.{IsMachine, Holds}
 use Rattle.faithful.specs.Confined.{IsOwnPlace}
 use Rattle.faithful.specs.Faithful.{AgreesOn, LeavesAndGoesOn, IsFaithful}
 use Rattle.faithful.specs.Histories.{ImageCall, entry_of, Serves, PlaysAlways}
-use Rattle.faithful.specs.Isolation.{EndAlike, IsIsolated}
+use Rattle.faithful.specs.Isolation.{duration, EndAlike, IsIsolated}
 use Rattle.faithful.specs.Timers.{SetsTimer, KeepsTimer}
 
 -- what plays a song after any calls is faithful to it
@@ -57,7 +57,7 @@ InitsEndAlike =
     (k : ℕ) → k < length (playable_subtunes song) → (one two : Machine) →
     IsMachine one → Holds one.memory address image → IsMachine two → Holds two.memory address image →
     (steps other : ℕ) (after after' : Machine) → Called one address k steps after → Called two address k other after' →
-    EndAlike image address steps other after after'
+    EndAlike image address (duration one address k steps) (duration two address k other) after after'
 
 -- and so do two plays after an init, whatever the two numbers are with which they are entered
 abbrev pub PlaysEndAlike : Type 0
@@ -68,4 +68,6 @@ PlaysEndAlike =
     IsMachine one → AgreesOn image address last one → number < 256 →
     IsMachine two → AgreesOn image address last two → other < 256 →
     (steps steps' : ℕ) (after after' : Machine) → Called one (address + 3) number steps after →
-    Called two (address + 3) other steps' after' → EndAlike image address steps steps' after after'
+    Called two (address + 3) other steps' after' →
+    EndAlike image address (duration one (address + 3) number steps) (duration two (address + 3) other steps') after
+    after'

@@ -7,7 +7,7 @@ use Rattle.sid_run.specs.State.{cleared_cpu, loaded_memory}
 use Rattle.faithful.specs.Confined.{memory_at_entry, IsConfined}
 use Rattle.faithful.specs.Faithful.{AgreesOn}
 use Rattle.faithful.specs.Histories.{most_call_steps}
-use Rattle.faithful.specs.Isolation.{EndAlike}
+use Rattle.faithful.specs.Isolation.{Duration, EndAlike}
 use Rattle.faithful.specs.Timers.{HasTimer, SetsTimer, SameTimer, KeepsTimer}
 use Rattle.faithful.specs.WorkedPlaces.{twice, twice_on_ntsc}
 
@@ -79,8 +79,13 @@ sixteen = replicate 16 0x60
 abbrev pub Agrees : ℕ → Type 0
 Agrees place = AgreesOn sixteen 0x1000 (machine_with sixteen) (with_byte place 1 (machine_with sixteen))
 
+-- so many steps and cycles
+abbrev pub took : ℕ → ℕ → Duration
+took steps cycles = record { steps = steps; cycles = cycles }
+
 abbrev pub EndsAlike : ℕ → Type 0
-EndsAlike place = EndAlike sixteen 0x1000 5 5 (machine_with sixteen) (with_byte place 1 (machine_with sixteen))
+EndsAlike place =
+    EndAlike sixteen 0x1000 (took 5 17) (took 5 17) (machine_with sixteen) (with_byte place 1 (machine_with sixteen))
 
 -- two machines that differ in the byte at a place
 pub record PairsAreTold : Type 0 where
@@ -92,6 +97,7 @@ pub record PairsAreTold : Type 0 where
   pub register : ¬ EndsAlike 0xD400
   pub volume : ¬ EndsAlike 0xD418
   pub in_image : ¬ EndsAlike 0x100F
-  pub steps : ¬ EndAlike sixteen 0x1000 5 6 (machine_with sixteen) (machine_with sixteen)
+  pub steps : ¬ EndAlike sixteen 0x1000 (took 5 17) (took 6 17) (machine_with sixteen) (machine_with sixteen)
+  pub cycles : ¬ EndAlike sixteen 0x1000 (took 5 17) (took 5 18) (machine_with sixteen) (machine_with sixteen)
   -- and the steps that a call may take
   pub most : most_call_steps ≡ 60000

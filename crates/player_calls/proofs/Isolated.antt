@@ -15,7 +15,7 @@ use Rattle.cpu6502.proofs.Laws.{called_once}
 use Rattle.sid_run.specs.State.{sid_registers}
 use Rattle.faithful.specs.Faithful.{AgreesOn}
 use Rattle.faithful.specs.Histories.{ImageCall, Init, Play, entry_of, IsMade, LeadTo, since_init, Serves}
-use Rattle.faithful.specs.Isolation.{EndAlike}
+use Rattle.faithful.specs.Isolation.{Duration, duration, EndAlike}
 use Rattle.scopes.specs.Meaning.{Ran, Done}
 use Rattle.scope_lines.specs.Known.{nothing, the_a, the_x, shown, either, known}
 use Rattle.scope_calls.specs.Listed.{Listed, end_at, meant}
@@ -85,6 +85,13 @@ record Pair (plan : Plan) (e : Listed) (bytes : List ℕ) (one two : Machine) (n
   one_code : (place : ℕ) → IsCodePlace plan place → slice_index a.after.memory place ≡ slice_index one.memory place
   two_code : (place : ℕ) → IsCodePlace plan place → slice_index b.after.memory place ≡ slice_index two.memory place
 
+two_durations : (m n c d : ℕ) → m ≡ n → c ≡ d →
+    (let one : Duration = record { steps = m; cycles = c } in
+    let two : Duration = record { steps = n; cycles = d } in one ≡ two)
+two_durations m n c d steps cycles =
+    ap (λ k. (let x : Duration = record { steps = k; cycles = c } in x)) steps
+    ∙ ap (λ k. (let x : Duration = record { steps = n; cycles = k } in x)) cycles
+
 ends_alike : {packed : PackedSong} {song : Song} {o : Options} {bytes : List ℕ} (plan : Plan) →
     IsPlayer plan packed song o bytes → (e : Listed) → ((place : ℕ) → e.may_read place ≡ plan.may_read place) →
     (one two : Machine) (number other : ℕ) (a : Returns e one number) (b : Returns e two other) →
@@ -92,9 +99,9 @@ ends_alike : {packed : PackedSong} {song : Song} {o : Options} {bytes : List ℕ
     ((place : ℕ) → plan.origin ≤ place → place < plan.origin + plan_size plan →
     slice_index one.memory place ≡ slice_index two.memory place) → (registers : List ℕ) →
     sid_registers a.after ≡ registers → sid_registers b.after ≡ registers →
-    EndAlike bytes plan.origin a.steps b.steps a.after b.after
+    EndAlike bytes plan.origin (duration one e.entry number a.steps) (duration two e.entry other b.steps) a.after b.after
 ends_alike plan p e reads one two number other a b pair same registers first second = record {
-  same_steps = pair.alike.steps;
+  same_duration = two_durations a.steps b.steps _ _ pair.alike.steps pair.alike.cycles;
   same_registers = first ∙ sym second;
   same_image = record {
     same = λ k few.
@@ -113,15 +120,18 @@ ends_alike plan p e reads one two number other a b pair same registers first sec
 
 -- as any two calls that return
 as_called : {bytes : List ℕ} {address : ℕ} (one two : Machine) (entry number other n m n' m' : ℕ)
-    (after after' last last' : Machine) → EndAlike bytes address n m after after' → Called one entry number n after →
+    (after after' last last' : Machine) →
+    EndAlike bytes address (duration one entry number n) (duration two entry other m) after after' →
+    Called one entry number n after →
     Called two entry other m after' → Called one entry number n' last → Called two entry other m' last' →
-    EndAlike bytes address n' m' last last'
+    EndAlike bytes address (duration one entry number n') (duration two entry other m') last last'
 as_called {bytes = bytes} {address = address} one two entry number other n m n' m' after after' last last' alike a b c d =
     let first : after ≡ last = same_after one entry number n n' after last a c in
     let second : after' ≡ last' = same_after two entry other m m' after' last' b d in
     record {
-      same_steps = called_once one entry number n' n last after c a ∙ alike.same_steps
-          ∙ called_once two entry other m m' after' last' b d;
+      same_duration = ap (duration one entry number) (called_once one entry number n' n last after c a)
+          ∙ (alike.same_duration
+          ∙ ap (duration two entry other) (called_once two entry other m m' after' last' b d));
       same_registers = ap sid_registers (sym first) ∙ alike.same_registers ∙ ap sid_registers second;
       same_image = subst (λ (x : Machine). AgreesOn bytes address x last') first
           (subst (λ (y : Machine). AgreesOn bytes address after y) second alike.same_image);
@@ -251,7 +261,8 @@ players_are_isolated plan packed song o bytes p = record { alike = by_call } whe
       IsMachine two → AgreesOn bytes plan.origin before two → IsMade song call other →
       (steps : ℕ) (after : Machine) → Called one (entry_of plan.origin call) number steps after →
       (steps' : ℕ) (after' : Machine) → Called two (entry_of plan.origin call) other steps' after' →
-      EndAlike bytes plan.origin steps steps' after after'
+      EndAlike bytes plan.origin (duration one (entry_of plan.origin call) number steps)
+      (duration two (entry_of plan.origin call) other steps') after after'
   by_call earlier Play before one two number other led begun is agrees made is' agrees' made' n after called m after'
       called' =
       let s = since (Play ∷ earlier) begun in
@@ -291,10 +302,15 @@ players_are_isolated plan packed song o bytes p = record { alike = by_call } whe
       let serves = (players_play plan packed song o bytes p).serves in
       let c = subst (λ i. Called one plan.origin i n after) made.1 called in
       let d = subst (λ i. Called two plan.origin i m after') made'.1 called' in
+      let ends =
       as_called one two plan.origin k k a.steps b.steps n m a.after b.after after after'
       (ends_alike plan p (init_listed plan) (λ place. refl) one two k k a b pair same (trace_with o song s.k s.n)
       (registers_of earlier (Init k) one k a.steps a.after
       (serves earlier (Init k) before one k led is agrees (made.0, refl)) a.called s)
       (registers_of earlier (Init k) two k b.steps b.after
       (serves earlier (Init k) before two k led is' agrees' (made.0, refl)) b.called s))
-      a.called b.called c d
+      a.called b.called c d in
+      subst (λ i. EndAlike bytes plan.origin (duration one plan.origin i n) (duration two plan.origin other m) after after')
+      (sym made.1)
+      (subst (λ i. EndAlike bytes plan.origin (duration one plan.origin k n) (duration two plan.origin i m) after after')
+      (sym made'.1) ends)
