@@ -14,3 +14,4 @@ mod Loaded
 mod Histories
 mod Served
 mod Isolated
+mod Quick

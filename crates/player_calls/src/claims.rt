@@ -1,6 +1,6 @@
 //! Facts about players, each the contract of a function that does nothing.
 
-ghost use Rattle.player_calls.specs.CallLaws.{PlayersPlay, PlayersAreIsolated, PlayersHoldTheStart};
+ghost use Rattle.player_calls.specs.CallLaws.{PlayersPlay, PlayersAreIsolated, PlayersKeepBounds, PlayersHoldTheStart};
 ghost use Rattle.player_calls.specs.WorkedWide.{SparesAreWorked, LayoutsAreWorked};
 
 /// Any calls of a player in any order, each from any machine that has the image's bytes as the call before left them,
@@ -13,6 +13,12 @@ pub fn players_play()
 /// From the first init on a call depends on the image's bytes alone, and init on its number.
 pub fn players_are_isolated()
     ensures { PlayersAreIsolated }
+{}
+
+/// No call takes more clock cycles than the first of the numbers that the rules admit for its entrance, and 11 for what
+/// stands around its blocks, after any calls and whatever the rest of memory holds.
+pub fn players_keep_bounds()
+    ensures { PlayersKeepBounds }
 {}
 
 /// A memory with the image's bytes as it is built holds the start of the first subtune, where each variable that has no

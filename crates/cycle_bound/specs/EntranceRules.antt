@@ -1,0 +1,54 @@
+-- The rules for the blocks that a machine calls at an entrance: a number for all of it, and those of its blocks' lines. This
+-- is the project's own; what an instruction takes is the MOS 6502 programming manual's.
+use Rattle.std.specs.Prelude.{ℕ, ◌+◌, ◌*◌, ◌≤◌, ◌++◌, Bool, Option, Some, None, List, [], ◌∷◌, take, drop}
+use Rattle.cpu6502.specs.declared.machine.Machine.{Machine}
+use Rattle.cpu6502.specs.declared.mnemonic.Mnemonic.TheVariants.{Cld, Jmp, Jsr, Ldx, Rts}
+use Rattle.cpu6502.specs.declared.mnemonic.Mode.TheVariants.{Absolute, Immediate, Implied}
+use Rattle.cpu6502.specs.Manual.{cycles_of}
+use Rattle.scopes.specs.Trees.{Tree}
+use Rattle.scope_calls.specs.Entrances.{Entrance}
+use Rattle.scope_calls.specs.Listed.{Listed}
+use Rattle.scope_calls.specs.Cycles.{meant_cycles}
+use Rattle.cycle_bound.specs.Rules.{nowhere, entry, behind_first, nodes, asked, Reaches, bound_by}
+
+-- ---- the voices
+
+-- three times the voices' block, and the code that calls it: three loads of X, two calls, and two returns
+abbrev pub calling_most : ℕ
+calling_most = 3 * cycles_of Ldx Immediate + 2 * cycles_of Jsr Absolute + 2 * cycles_of Rts Implied
+
+abbrev pub voice_most : Option Tree → List ℕ → ℕ
+voice_most None numbers = 0
+voice_most (Some block) numbers = 3 * entry numbers 0 + calling_most
+
+abbrev pub voice_asked : (ℕ → Bool) → Option Tree → List ℕ → List ℕ
+voice_asked holds None numbers = []
+voice_asked holds (Some block) numbers = asked holds nowhere 0 block numbers
+
+-- ---- all of it
+
+-- the numbers of the first block's lines stand behind that of the entrance, and those of the voices' block behind them
+abbrev pub first_numbers : Entrance → List ℕ → List ℕ
+first_numbers e numbers = take (nodes e.first) (behind_first numbers)
+
+abbrev pub voice_numbers : Entrance → List ℕ → List ℕ
+voice_numbers e numbers = drop (nodes e.first) (behind_first numbers)
+
+abbrev pub entrance_asked : Entrance → List ℕ → List ℕ
+entrance_asked e numbers =
+    (entry (first_numbers e numbers) 0 + voice_most e.voice (voice_numbers e numbers))
+    ∷ (asked e.holds nowhere 0 e.first (first_numbers e numbers)
+    ++ voice_asked e.holds e.voice (voice_numbers e numbers))
+
+abbrev pub AdmitsEntrance : Entrance → List ℕ → Type 0
+AdmitsEntrance e numbers = Reaches (entrance_asked e numbers) numbers
+
+-- the instructions of a call beside those of its blocks and of what calls the voices
+abbrev pub around_cycles : ℕ
+around_cycles = cycles_of Jmp Absolute + cycles_of Cld Implied + cycles_of Rts Implied
+
+-- a call takes at most the entrance's number and these, whatever is in memory and in the registers
+abbrev pub EntrancesKeepBounds : Type 0
+EntrancesKeepBounds =
+    (e : Listed) (machine : Machine) (number : ℕ) (numbers : List ℕ) → AdmitsEntrance e.entrance numbers →
+    meant_cycles e machine number ≤ bound_by numbers + around_cycles

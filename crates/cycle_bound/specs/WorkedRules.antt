@@ -1,0 +1,122 @@
+-- Numbers of small blocks, worked by hand from the cycles of the MOS 6502 programming manual, and numbers that aren't
+-- admitted.
+use Rattle.std.specs.Prelude.{◌≡◌, ℕ, Bool, false, nat_eq, List, [], ◌∷◌}
+use Rattle.scopes.specs.Trees.{Tree, tree_of}
+use Rattle.scope_lines.specs.declared.worked.TheConstants.{CAPPED, LOUD, SOUGHT, SUMMED}
+use Rattle.cycle_bound.specs.declared.worked.TheConstants.{KEPT, ONE_OF_TWO, IN_LOOPS, WRITES, LEFT_FAR, SAME_NAME}
+use Rattle.scope_calls.specs.WorkedEntrances.{volume_entrance, voices_entrance}
+use Rattle.cycle_bound.specs.Rules.{nowhere, asked, Admits}
+use Rattle.cycle_bound.specs.EntranceRules.{calling_most, around_cycles, AdmitsEntrance}
+use Rattle.cycle_bound.specs.Least.{least_all}
+
+-- no condition holds; and one alone
+abbrev pub none : ℕ → Bool
+none condition = false
+
+abbrev pub only : ℕ → ℕ → Bool
+only one condition = nat_eq condition one
+
+-- each number is as great as its rule asks, and no greater
+abbrev pub AreLeast : (ℕ → Bool) → Tree → List ℕ → Type 0
+AreLeast holds tree numbers = (asked holds nowhere 0 tree numbers ≡ numbers) × Admits holds tree numbers
+
+-- ---- a loop
+
+abbrev pub sought : List ℕ → Type 0
+sought numbers = Admits none (tree_of SOUGHT.now) numbers
+
+-- From the end: a jump takes 3; a branch 2 and what follows, or 4 where it leaves; DEY 2; CMP by Y at most 5. So a turn
+-- takes at most 14, and four of them 56. A number may be greater, but then the ones before it must reach it.
+pub record LoopsAreCounted : Type 0 where
+  pub least : AreLeast none (tree_of SOUGHT.now) (58 ∷ 58 ∷ 56 ∷ 14 ∷ 9 ∷ 7 ∷ 5 ∷ 3 ∷ [])
+  pub raised : sought (63 ∷ 58 ∷ 56 ∷ 14 ∷ 9 ∷ 7 ∷ 5 ∷ 3 ∷ [])
+  pub all_raised : sought (62 ∷ 62 ∷ 60 ∷ 15 ∷ 9 ∷ 7 ∷ 5 ∷ 3 ∷ [])
+  pub lowered : ¬ sought (57 ∷ 58 ∷ 56 ∷ 14 ∷ 9 ∷ 7 ∷ 5 ∷ 3 ∷ [])
+  pub inner_raised : ¬ sought (58 ∷ 58 ∷ 56 ∷ 15 ∷ 9 ∷ 7 ∷ 5 ∷ 3 ∷ [])
+  pub one_turn : ¬ sought (16 ∷ 16 ∷ 14 ∷ 14 ∷ 9 ∷ 7 ∷ 5 ∷ 3 ∷ [])
+  pub free_page : ¬ sought (54 ∷ 54 ∷ 52 ∷ 13 ∷ 9 ∷ 7 ∷ 5 ∷ 3 ∷ [])
+  pub short_jump : ¬ sought (54 ∷ 54 ∷ 52 ∷ 13 ∷ 8 ∷ 6 ∷ 4 ∷ 2 ∷ [])
+  pub one_less : ¬ sought (58 ∷ 58 ∷ 56 ∷ 14 ∷ 9 ∷ 7 ∷ 5 ∷ [])
+  pub one_more : ¬ sought (58 ∷ 58 ∷ 56 ∷ 14 ∷ 9 ∷ 7 ∷ 5 ∷ 3 ∷ 0 ∷ [])
+  pub no_number : ¬ sought []
+
+-- a loop in a loop that both may leave for what is behind: 7 cycles behind the outer one, 24 in each of its three turns
+abbrev pub in_loops : List ℕ → Type 0
+in_loops numbers = Admits none (tree_of IN_LOOPS.now) numbers
+
+pub record WaysOutAreCounted : Type 0 where
+  pub least : AreLeast none (tree_of IN_LOOPS.now) (79 ∷ 79 ∷ 24 ∷ 20 ∷ 8 ∷ 6 ∷ 4 ∷ 4 ∷ 7 ∷ 5 ∷ 3 ∷ [])
+  pub way_out_free : ¬ in_loops (72 ∷ 72 ∷ 24 ∷ 20 ∷ 8 ∷ 6 ∷ 4 ∷ 4 ∷ 7 ∷ 5 ∷ 3 ∷ [])
+  pub inner_once : ¬ in_loops (55 ∷ 55 ∷ 16 ∷ 12 ∷ 8 ∷ 6 ∷ 4 ∷ 4 ∷ 7 ∷ 5 ∷ 3 ∷ [])
+
+-- A loop whose own end is never come to, with 4 cycles behind the outer scope and 6 behind the inner one: it comes out at
+-- the greater number of those that it may be left for, of what is kept; and a scope in it is none of those around it.
+pub record FarWaysAreCounted : Type 0 where
+  pub kept : AreLeast (only KEPT) (tree_of LEFT_FAR.now)
+      (20 ∷ 20 ∷ 20 ∷ 7 ∷ 5 ∷ 5 ∷ 3 ∷ 0 ∷ 6 ∷ 4 ∷ 2 ∷ [])
+  pub left_out : AreLeast none (tree_of LEFT_FAR.now) (14 ∷ 14 ∷ 14 ∷ 5 ∷ 3 ∷ 5 ∷ 3 ∷ 0 ∷ 6 ∷ 4 ∷ 2 ∷ [])
+  pub same_name : AreLeast none (tree_of SAME_NAME.now) (14 ∷ 14 ∷ 7 ∷ 7 ∷ 3 ∷ 0 ∷ 2 ∷ [])
+
+-- what is written by an index takes no more in another page; and nothing is behind what is never come to
+pub record WritesAreCounted : Type 0 where
+  pub least : AreLeast none (tree_of WRITES.now) (12 ∷ 7 ∷ 0 ∷ 2 ∷ [])
+
+-- ---- branches
+
+abbrev pub one_of_two : List ℕ → Type 0
+one_of_two numbers = Admits none (tree_of ONE_OF_TWO.now) numbers
+
+-- one of two ways: the greater counts, 2 and 9, and not the lesser, 4 and 2; nor both
+pub record BranchesAreCounted : Type 0 where
+  pub least : AreLeast none (tree_of ONE_OF_TWO.now) (11 ∷ 11 ∷ 11 ∷ 9 ∷ 7 ∷ 3 ∷ 2 ∷ [])
+  pub lesser : ¬ one_of_two (6 ∷ 6 ∷ 6 ∷ 9 ∷ 7 ∷ 3 ∷ 2 ∷ [])
+  pub short_branch : ¬ one_of_two (11 ∷ 11 ∷ 10 ∷ 9 ∷ 7 ∷ 3 ∷ 2 ∷ [])
+
+-- ---- conditions
+
+abbrev pub summed : (ℕ → Bool) → List ℕ → Type 0
+summed holds numbers = Admits holds (tree_of SUMMED.now) numbers
+
+-- what a condition keeps counts; what it doesn't keep is asked for its own, and counts for none of the others
+pub record ConditionsAreCounted : Type 0 where
+  pub capped : AreLeast (only CAPPED) (tree_of SUMMED.now)
+      (34 ∷ 32 ∷ 29 ∷ 27 ∷ 24 ∷ 22 ∷ 22 ∷ 20 ∷ 14 ∷ 10 ∷ 10 ∷ 8 ∷ 8 ∷ 3 ∷ 4 ∷ 8 ∷ 4 ∷ 4 ∷ [])
+  pub loud : AreLeast (only LOUD) (tree_of SUMMED.now)
+      (32 ∷ 30 ∷ 27 ∷ 25 ∷ 22 ∷ 20 ∷ 20 ∷ 18 ∷ 12 ∷ 8 ∷ 14 ∷ 12 ∷ 12 ∷ 3 ∷ 8 ∷ 8 ∷ 4 ∷ 4 ∷ [])
+  pub not_kept : ¬ summed (only CAPPED)
+      (28 ∷ 26 ∷ 23 ∷ 21 ∷ 18 ∷ 16 ∷ 16 ∷ 14 ∷ 8 ∷ 4 ∷ 10 ∷ 8 ∷ 8 ∷ 3 ∷ 4 ∷ 8 ∷ 4 ∷ 4 ∷ [])
+  pub other_side : ¬ summed (only LOUD)
+      (28 ∷ 26 ∷ 23 ∷ 21 ∷ 18 ∷ 16 ∷ 16 ∷ 14 ∷ 8 ∷ 4 ∷ 10 ∷ 8 ∷ 8 ∷ 3 ∷ 4 ∷ 8 ∷ 4 ∷ 4 ∷ [])
+  pub its_own : ¬ summed (only LOUD)
+      (32 ∷ 30 ∷ 27 ∷ 25 ∷ 22 ∷ 20 ∷ 20 ∷ 18 ∷ 12 ∷ 8 ∷ 0 ∷ 0 ∷ 0 ∷ 0 ∷ 8 ∷ 8 ∷ 4 ∷ 4 ∷ [])
+
+-- ---- entrances
+
+-- STA of the volume, 4 cycles; and LDA and STA, 6, with the voices' TXA and STA, 7, three times, and 30 that call them
+abbrev pub volume_admits : List ℕ → Type 0
+volume_admits numbers = AdmitsEntrance volume_entrance.entrance numbers
+
+abbrev pub voices_admit : List ℕ → Type 0
+voices_admit numbers = AdmitsEntrance voices_entrance.entrance numbers
+
+pub record EntrancesAreCounted : Type 0 where
+  pub volume : least_all volume_entrance.entrance ≡ 4 ∷ 4 ∷ []
+  pub voices : least_all voices_entrance.entrance ≡ 57 ∷ 6 ∷ 4 ∷ 7 ∷ 5 ∷ []
+  pub volume_least : volume_admits (4 ∷ 4 ∷ [])
+  pub voices_least : voices_admit (57 ∷ 6 ∷ 4 ∷ 7 ∷ 5 ∷ [])
+  pub lowered : ¬ volume_admits (3 ∷ 4 ∷ [])
+  pub two_voices : ¬ voices_admit (50 ∷ 6 ∷ 4 ∷ 7 ∷ 5 ∷ [])
+  pub uncalled : ¬ voices_admit (27 ∷ 6 ∷ 4 ∷ 7 ∷ 5 ∷ [])
+  pub exchanged : ¬ voices_admit (57 ∷ 7 ∷ 5 ∷ 6 ∷ 4 ∷ [])
+  pub no_voices : ¬ voices_admit (57 ∷ 6 ∷ 4 ∷ [])
+  pub around : around_cycles ≡ 11
+  pub calling : calling_most ≡ 30
+
+pub record NumbersAreAsWorked : Type 0 where
+  pub far : FarWaysAreCounted
+  pub writes : WritesAreCounted
+  pub entrances : EntrancesAreCounted
+  pub loops : LoopsAreCounted
+  pub ways_out : WaysOutAreCounted
+  pub branches : BranchesAreCounted
+  pub conditions : ConditionsAreCounted

@@ -1,0 +1,30 @@
+//! Facts about the definitions, each the contract of a function that does nothing.
+
+ghost use Rattle.cycle_bound.specs.Bounds.{BlocksKeepBounds, TreesKeepBounds};
+ghost use Rattle.cycle_bound.specs.EntranceRules.{EntrancesKeepBounds};
+ghost use Rattle.cycle_bound.specs.Least.{LeastAreLeast};
+ghost use Rattle.cycle_bound.specs.WorkedRules.{NumbersAreAsWorked};
+
+/// Numbers that the rules admit bound the clock cycles of a block's lines, wherever they stand and from any desk.
+#[tactic(auto, using(crate::proofs::Bounds::trees_keep_bounds, crate::proofs::Bounds::blocks_keep_bounds))]
+pub fn bounds_are_kept()
+    ensures trees { TreesKeepBounds }
+    ensures blocks { BlocksKeepBounds }
+{}
+
+/// Numbers that the rules admit for an entrance and its blocks bound the clock cycles of each call.
+pub fn entrances_keep_bounds()
+    ensures { EntrancesKeepBounds }
+{}
+
+/// Each entrance has least numbers: they are admitted, and all others that are admitted reach them.
+pub fn least_are_least()
+    ensures { LeastAreLeast }
+{}
+
+/// Numbers of small blocks, worked by hand: loops, ways out of them, branches and conditions, and numbers that aren't
+/// admitted.
+#[tactic(auto, using(crate::proofs::WorkedRules::numbers_are_as_worked))]
+pub fn worked_numbers()
+    ensures { NumbersAreAsWorked }
+{}
