@@ -21,6 +21,7 @@ pub struct MachineCase {
 #[derive(Clone, Copy)]
 enum Head {
     Does(Deed),
+    Takes,
     At,
     Writes,
     Log,
@@ -37,11 +38,12 @@ enum Deed {
 }
 
 /// What a line says, by its first word.
-const HEADS: [(&[u8], Head); 8] = [
+const HEADS: [(&[u8], Head); 9] = [
     (b"cpu", Head::Does(Deed::Cpu)),
     (b"put", Head::Does(Deed::Put)),
     (b"step", Head::Does(Deed::Step)),
     (b"call", Head::Does(Deed::Call)),
+    (b"takes", Head::Takes),
     (b"at", Head::At),
     (b"writes", Head::Writes),
     (b"log", Head::Log),
@@ -109,6 +111,13 @@ fn step(bench: &mut Bench, reader: &mut Reader<'_>) -> Result<(), Difference> {
         Err(found) if found == wanted => Ok(()),
         Err(found) => Err(Difference::Stopped(found)),
     }
+}
+
+/// Sees that the next step takes so many clock cycles.
+fn takes(bench: &Bench, reader: &mut Reader<'_>) -> Result<(), Difference> {
+    let wanted = reader.number();
+    reader.end()?;
+    same("cycles", u32::from(bench.machine.cycles()), wanted)
 }
 
 /// Sees that a call ended as it is wanted.
@@ -227,6 +236,7 @@ impl MachineCase {
     ) -> Result<(), Difference> {
         match look_up(&HEADS, head) {
             Some(Head::Does(deed)) => self.does(alloc, bench, deed, reader),
+            Some(Head::Takes) => takes(bench, reader),
             Some(Head::At) => bytes_at(alloc, bench, reader, false),
             Some(Head::Writes) => self.check_log(alloc, reader),
             Some(Head::Log) => self.check_count(reader),

@@ -12,11 +12,12 @@ use Rattle.code_runs.specs.Runs.{State, Leads, cycles_from}
 use Rattle.code_runs.specs.Code.{place_of, Stands}
 use Rattle.code_runs.specs.Calls.{In}
 
--- those of an instruction with this operand, at the program counter: its row's, one where a byte is read by an index
--- in another page, and those of a branch that is taken
+-- without an index
 abbrev pub unindexed : Cpu → Cpu
 unindexed cpu = record cpu { x = 0; y = 0 }
 
+-- those of an instruction with this operand, at the program counter: its row's, one where a byte is read by an index
+-- in another page, and those of a branch that is taken
 abbrev pub standing_cycles : Mnemonic → Mode → ℕ → State → ℕ
 standing_cycles mnemonic mode operand state =
     cycles_of mnemonic mode

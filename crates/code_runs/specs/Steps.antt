@@ -1,12 +1,12 @@
 -- What a step of an instruction does, by its name: at which place it works, or which byte it reads, comes from its
 -- mode. Each number that a result computes is a parameter with an equation. Source: the MOS 6502 programming manual.
 use Rattle.std.specs.Prelude.{◌≡◌, ℕ, ◌+◌, ◌-◌, ◌*◌, ◌/◌, ◌%◌, ◌<◌, Bool, true, false}
-use Rattle.std.specs.Prelude.{not, [], ◌∷◌, Option, Some, None, nat_eq, nat_le, bit_and, bit_or, bit_xor}
+use Rattle.std.specs.Prelude.{[], ◌∷◌, Some, nat_eq, nat_le, bit_and, bit_or, bit_xor}
 use Rattle.cpu6502.specs.declared.cpu.Cpu.{Cpu}
 use Rattle.cpu6502.specs.declared.memory.TheConstants.{MEMORY_SIZE}
 use Rattle.cpu6502.specs.declared.mnemonic.Mnemonic.{Mnemonic}
-use Rattle.cpu6502.specs.declared.mnemonic.Mnemonic.TheVariants.{Adc, And, Asl, Bcc, Bcs, Beq, Bit, Bmi, Bne, Bpl, Bvc}
-use Rattle.cpu6502.specs.declared.mnemonic.Mnemonic.TheVariants.{Bvs, Clc, Cld, Cli, Clv, Cmp, Cpx, Cpy, Dec, Dex, Dey}
+use Rattle.cpu6502.specs.declared.mnemonic.Mnemonic.TheVariants.{Adc, And, Asl, Bit}
+use Rattle.cpu6502.specs.declared.mnemonic.Mnemonic.TheVariants.{Clc, Cld, Cli, Clv, Cmp, Cpx, Cpy, Dec, Dex, Dey}
 use Rattle.cpu6502.specs.declared.mnemonic.Mnemonic.TheVariants.{Eor, Inc, Inx, Iny, Jmp, Jsr, Lda, Ldx, Ldy, Lsr, Nop}
 use Rattle.cpu6502.specs.declared.mnemonic.Mnemonic.TheVariants.{Ora, Pha, Php, Pla, Plp, Rol, Ror, Rti, Rts, Sbc, Sec}
 use Rattle.cpu6502.specs.declared.mnemonic.Mnemonic.TheVariants.{Sed, Sei, Sta, Stx, Sty, Tax, Tay, Tsx, Txa, Txs, Tya}

@@ -1,5 +1,5 @@
 -- The column of cycles is the manual's, and an instruction takes cycles where it has an effect.
-use Rattle.std.proofs.Common.{◌≡◌, ◌≢◌, ℕ, ◌+◌, ◌<◌, ◌≤◌, ◌⊎◌, Bool, true, false, ◌&&◌, nat_eq, nat_le, length}
+use Rattle.std.proofs.Common.{◌≡◌, ◌≢◌, ℕ, ◌+◌, ◌<◌, ◌≤◌, ◌⊎◌, Bool, true, false, not, ◌%◌, ◌&&◌, nat_eq, nat_le, length}
 use Rattle.std.proofs.Common.{Option, Some, None, Result, Ok, Err, IfSome, if◌then◌else◌, refl, sym, ap, ◌∙◌, subst, arith, inl, inr}
 use Rattle.std.proofs.lemmas.Bool.{eqb-true, leb-true, and_parts, cases_lt}
 use Rattle.std.proofs.lemmas.List.{get_or_past}
@@ -8,7 +8,8 @@ use Rattle.base.proofs.Laws.{same_some}
 use Rattle.cpu6502.specs.declared.cpu.Cpu.{Cpu}
 use Rattle.cpu6502.specs.declared.effect.Effect.{Effect}
 use Rattle.cpu6502.specs.declared.mnemonic.Mnemonic.{Mnemonic}
-use Rattle.cpu6502.specs.declared.mnemonic.Mnemonic.TheVariants.{Adc, Brk, Sbc}
+use Rattle.cpu6502.specs.declared.mnemonic.Mnemonic.TheVariants.{Adc, Bcc, Bcs, Beq, Bmi, Bne, Bpl, Brk, Bvc, Bvs, Sbc}
+use Rattle.cpu6502.specs.declared.memory.TheConstants.{MEMORY_SIZE}
 use Rattle.cpu6502.specs.declared.mnemonic.Mode.{Mode}
 use Rattle.cpu6502.specs.declared.mnemonic.Mode.TheVariants.{Implied}
 use Rattle.cpu6502.specs.declared.stop.Stop.{Stop}
@@ -16,9 +17,11 @@ use Rattle.cpu6502.specs.declared.stop.Stop.TheVariants.{Illegal, Break, Decimal
 use Rattle.cpu6502.specs.declared.table.Row.{Row}
 use Rattle.cpu6502.specs.declared.table.TheConstants.{TABLE}
 use Rattle.cpu6502.specs.Opcodes.{Meaning, row_of, meaning_in, meaning_of}
-use Rattle.cpu6502.specs.Effects.{done_by, effect, stop_of}
-use Rattle.cpu6502.specs.Cycles.{unless_stopped, row_cycles, cycles_by, cycles}
-use Rattle.cpu6502.specs.Manual.{cycles_of, RowsHaveTheseCycles, HasEffect, EffectsTakeCycles}
+use Rattle.cpu6502.specs.Registers.{one_if}
+use Rattle.cpu6502.specs.Branches.{is_taken}
+use Rattle.cpu6502.specs.Effects.{address_of, done_by, effect, stop_of}
+use Rattle.cpu6502.specs.Cycles.{crosses, is_read, is_paged, branch_cycles, unless_stopped, row_cycles, cycles_by, cycles}
+use Rattle.cpu6502.specs.Manual.{cycles_of, RowsHaveTheseCycles, HasEffect, EffectsTakeCycles, CyclesAreInRange}
 use Rattle.cpu6502.specs.Stops.{IsCause}
 use Rattle.cpu6502.proofs.EachRow.{all_below, each_below}
 use Rattle.cpu6502.proofs.Causes.{Stopped, plain_cause, stops_have_causes}
@@ -55,31 +58,93 @@ rows_have_these_cycles opcode row e =
 
 -- ---- from 2 to 7
 
-record IsQuick (cycles : ℕ) : Type 0 where
-  some : 1 ≤ cycles
-  few : cycles ≤ 7
+-- the most that is added to a row's cycles
+abbrev taken_most : Mnemonic → ℕ
+taken_most Bcc = 2
+taken_most Bcs = 2
+taken_most Beq = 2
+taken_most Bmi = 2
+taken_most Bne = 2
+taken_most Bpl = 2
+taken_most Bvc = 2
+taken_most Bvs = 2
+taken_most _ = 0
+
+abbrev most_of : Row → ℕ
+most_of row = row.cycles + one_if (is_paged row.mode && is_read row.mnemonic) + taken_most row.mnemonic
+
+one_few : (z : Bool) → one_if z ≤ 1
+one_few true = omega arith
+one_few false = omega arith
+
+branch_few : (next place : ℕ) (z : Bool) → branch_cycles (Some z) next place ≤ 2
+branch_few next place true = (let one = one_few (crosses next place) in omega (arith, one))
+branch_few next place false = omega arith
+
+taken_few : (mnemonic : Mnemonic) (cpu : Cpu) (next place : ℕ) →
+    branch_cycles (is_taken mnemonic cpu) next place ≤ taken_most mnemonic
+taken_few Bcc cpu next place = branch_few next place (not cpu.c)
+taken_few Bcs cpu next place = branch_few next place cpu.c
+taken_few Beq cpu next place = branch_few next place cpu.z
+taken_few Bmi cpu next place = branch_few next place cpu.n
+taken_few Bne cpu next place = branch_few next place (not cpu.z)
+taken_few Bpl cpu next place = branch_few next place (not cpu.n)
+taken_few Bvc cpu next place = branch_few next place (not cpu.v)
+taken_few Bvs cpu next place = branch_few next place cpu.v
+taken_few _ cpu next place = omega arith
+
+one_at_most : (p r x : Bool) → one_if (p && r && x) ≤ one_if (p && r)
+one_at_most true true x = one_few x
+one_at_most true false x = omega arith
+one_at_most false r x = omega arith
+
+record IsQuick (row : Row) : Type 0 where
+  some : 2 ≤ row.cycles
+  few : most_of row ≤ 7
 
 abbrev is_quick : Option Row → Bool
 is_quick None = true
-is_quick (Some row) = nat_le 1 row.cycles && nat_le row.cycles 7
+is_quick (Some row) = nat_le 2 row.cycles && nat_le (most_of row) 7
 
 all_quick : all_below (λ byte. is_quick (row_of byte)) 256 ≡ true
 all_quick = refl
 
-rows_are_quick : (opcode : ℕ) (row : Row) → row_of opcode ≡ Some row → IsQuick row.cycles
+rows_are_quick : (opcode : ℕ) (row : Row) → row_of opcode ≡ Some row → IsQuick row
 rows_are_quick opcode row e =
     let there : is_quick (Some row) ≡ true =
     subst (λ r. is_quick r ≡ true) e
     (each_below (λ byte. is_quick (row_of byte)) 256 opcode all_quick (has_row opcode row e)) in
-    let parts = and_parts (nat_le 1 row.cycles) (nat_le row.cycles 7) there in
-    record { some = leb-true 1 row.cycles parts.0; few = leb-true row.cycles 7 parts.1 }
+    let parts = and_parts (nat_le 2 row.cycles) (nat_le (most_of row) 7) there in
+    record { some = leb-true 2 row.cycles parts.0; few = leb-true (most_of row) 7 parts.1 }
 
 pub rows_are_few : (opcode : ℕ) → IfSome (row_of opcode) (λ row. row.cycles ≤ 7)
 rows_are_few opcode = by_row (row_of opcode) refl
   where
     by_row : (r : Option Row) → row_of opcode ≡ r → IfSome r (λ row. row.cycles ≤ 7)
     by_row None e = tt
-    by_row (Some row) e = (rows_are_quick opcode row e).few
+    by_row (Some row) e = (let few = (rows_are_quick opcode row e).few in omega (arith, few))
+
+pub cycles_are_in_range : CyclesAreInRange
+cycles_are_in_range at cpu below some = by_row (row_of (at cpu.pc)) refl some
+  where
+    by_stop : (row : Row) (s : Option Stop) → IsQuick row → unless_stopped s (row_cycles row at cpu) ≢ 0 →
+        (2 ≤ unless_stopped s (row_cycles row at cpu)) × (unless_stopped s (row_cycles row at cpu) ≤ 7)
+    by_stop row None quick takes =
+        let few = quick.few in
+        let least = quick.some in
+        let index =
+        one_at_most (is_paged row.mode) (is_read row.mnemonic)
+        (crosses (address_of row.mode at cpu.pc 0 0) (address_of row.mode at cpu.pc cpu.x cpu.y)) in
+        let taken =
+        taken_few row.mnemonic cpu ((cpu.pc + 2) % MEMORY_SIZE) (address_of row.mode at cpu.pc cpu.x cpu.y) in
+        (omega (arith, least), omega (arith, few, index, taken))
+    by_stop row (Some stop) quick takes = absurd (takes refl)
+
+    by_row : (r : Option Row) → row_of (at cpu.pc) ≡ r → cycles_by r at cpu ≢ 0 →
+        (2 ≤ cycles_by r at cpu) × (cycles_by r at cpu ≤ 7)
+    by_row None is takes = absurd (takes refl)
+    by_row (Some row) is takes =
+        by_stop row (stop_of row.mnemonic cpu.pc cpu) (rows_are_quick (at cpu.pc) row is) takes
 
 -- ---- where an effect is
 

@@ -18,8 +18,8 @@ use Rattle.cpu6502.specs.Effects.{address_of, stop_of}
 abbrev pub crosses : ℕ → ℕ → Bool
 crosses from to = not (nat_eq (from / 256) (to / 256))
 
--- what reads a byte and may have an index; what writes one by an index always takes the cycle that a read takes where
--- it crosses a page
+-- what reads a byte, writes none, and may have an index; what writes one by an index always takes the cycle that a read
+-- takes where it crosses a page
 abbrev pub is_read : Mnemonic → Bool
 is_read Adc = true
 is_read And = true

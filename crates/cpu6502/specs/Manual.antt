@@ -1,6 +1,6 @@
 -- The clock cycles of an instruction in a mode, as the MOS 6502 programming manual's tables have them: the rule by which
 -- the column of the decode table is checked.
-use Rattle.std.specs.Prelude.{◌≡◌, ◌≢◌, ℕ, ◌<◌, Option, Some, Ok, ◌↔◌}
+use Rattle.std.specs.Prelude.{◌≡◌, ◌≢◌, ℕ, ◌<◌, ◌≤◌, Some, Ok, ◌↔◌}
 use Rattle.cpu6502.specs.declared.cpu.Cpu.{Cpu}
 use Rattle.cpu6502.specs.declared.effect.Effect.{Effect}
 use Rattle.cpu6502.specs.declared.mnemonic.Mnemonic.{Mnemonic}
@@ -15,7 +15,8 @@ use Rattle.cpu6502.specs.Opcodes.{row_of}
 use Rattle.cpu6502.specs.Effects.{effect}
 use Rattle.cpu6502.specs.Cycles.{cycles}
 
--- what reads a byte, works on registers and flags, or branches; of a jump, the one by a pointer
+-- what neither stores nor changes a byte: what reads one, works on registers and flags, or branches; of the jumps, the
+-- one by a pointer
 abbrev pub read_cycles : Mode → ℕ
 read_cycles Implied = 2
 read_cycles Accumulator = 2
@@ -76,9 +77,15 @@ cycles_of mnemonic mode = read_cycles mode
 abbrev pub RowsHaveTheseCycles : Type 0
 RowsHaveTheseCycles = (opcode : ℕ) (row : Row) → row_of opcode ≡ Some row → row.cycles ≡ cycles_of row.mnemonic row.mode
 
--- an instruction takes no cycles exactly where it has no effect
+-- the instruction at the program counter does something
 abbrev pub HasEffect : (ℕ → ℕ) → Cpu → Type 0
 HasEffect at cpu = (done : Effect) × (effect at cpu ≡ Ok done)
 
+-- it takes no cycles exactly where it does nothing
 abbrev pub EffectsTakeCycles : Type 0
 EffectsTakeCycles = (at : ℕ → ℕ) (cpu : Cpu) → at cpu.pc < 256 → (cycles at cpu ≢ 0) ↔ HasEffect at cpu
+
+-- and else 2 to 7
+abbrev pub CyclesAreInRange : Type 0
+CyclesAreInRange =
+    (at : ℕ → ℕ) (cpu : Cpu) → at cpu.pc < 256 → cycles at cpu ≢ 0 → (2 ≤ cycles at cpu) × (cycles at cpu ≤ 7)

@@ -5,7 +5,7 @@ use Rattle.std.specs.Prelude.{count_by, if◌then◌else◌}
 use Rattle.std.specs.Option.{is_some}
 use Rattle.cpu6502.specs.declared.mnemonic.Mnemonic.{Mnemonic}
 use Rattle.cpu6502.specs.declared.mnemonic.Mnemonic.TheVariants.{Adc, Asl, Bit, Bne, Brk, Inc, Jmp, Jsr, Lda, Ldx, Nop}
-use Rattle.cpu6502.specs.declared.mnemonic.Mnemonic.TheVariants.{Pha, Pla, Ror, Rti, Rts, Sta, Stx}
+use Rattle.cpu6502.specs.declared.mnemonic.Mnemonic.TheVariants.{Pha, Php, Pla, Plp, Ror, Rti, Rts, Sta, Stx}
 use Rattle.cpu6502.specs.declared.mnemonic.Mode.{Mode}
 use Rattle.cpu6502.specs.declared.mnemonic.Mode.TheVariants.{Implied, Accumulator, Immediate, ZeroPage, ZeroPageX}
 use Rattle.cpu6502.specs.declared.mnemonic.Mode.TheVariants.{ZeroPageY, Absolute, AbsoluteX, AbsoluteY, IndirectX}
@@ -71,7 +71,8 @@ ChangesHaveRows =
 -- what has no operand in memory, and what jumps
 abbrev pub OthersHaveRows : Type 0
 OthersHaveRows =
-    RowIs 0xEA Nop Implied 2 × RowIs 0x48 Pha Implied 3 × RowIs 0x68 Pla Implied 4 × RowIs 0x00 Brk Implied 7
+    RowIs 0xEA Nop Implied 2 × RowIs 0x48 Pha Implied 3 × RowIs 0x08 Php Implied 3 × RowIs 0x68 Pla Implied 4
+    × RowIs 0x28 Plp Implied 4 × RowIs 0x00 Brk Implied 7
     × RowIs 0x40 Rti Implied 6 × RowIs 0x60 Rts Implied 6 × RowIs 0x20 Jsr Absolute 6 × RowIs 0x4C Jmp Absolute 3
     × RowIs 0x6C Jmp Indirect 5 × RowIs 0xD0 Bne Relative 2
 

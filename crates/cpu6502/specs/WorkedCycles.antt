@@ -47,7 +47,10 @@ OthersDoNotCross =
     × TakesBy plain (0x99 ∷ 0xCD ∷ 0x20 ∷ []) 5 × TakesBy plain (0x91 ∷ 0x80 ∷ []) 6
     × TakesBy plain (0x91 ∷ 0x82 ∷ []) 6 × TakesBy plain (0xFE ∷ 0xFE ∷ 0x20 ∷ []) 7
     × TakesBy plain (0xFE ∷ 0xFF ∷ 0x20 ∷ []) 7 × TakesBy plain (0x1E ∷ 0xFF ∷ 0x20 ∷ []) 7
+    × TakesBy plain (0x5E ∷ 0xFF ∷ 0x20 ∷ []) 7 × TakesBy plain (0x3E ∷ 0xFF ∷ 0x20 ∷ []) 7
+    × TakesBy plain (0x7E ∷ 0xFF ∷ 0x20 ∷ []) 7 × TakesBy plain (0xDE ∷ 0xFF ∷ 0x20 ∷ []) 7
     × TakesBy plain (0xB5 ∷ 0xFF ∷ []) 4 × TakesBy plain (0xB6 ∷ 0xFF ∷ []) 4 × TakesBy plain (0xA1 ∷ 0xFF ∷ []) 6
+    × TakesBy plain (0xA1 ∷ 0x7F ∷ []) 6
 
 -- ---- branches
 
@@ -63,7 +66,7 @@ BranchesCross =
     × Takes (record plain { pc = 0x10F0; z = true }) (0xD0 ∷ 0x10 ∷ []) 2
     × BranchTakes 0x1000 0x10 3 × BranchTakes 0x1000 0x00 3 × BranchTakes 0x10F0 0x0D 3 × BranchTakes 0x10F0 0x0E 4
     × BranchTakes 0x1100 0xFE 3 × BranchTakes 0x1100 0xFD 4 × BranchTakes 0x10FD 0x00 3 × BranchTakes 0x10FE 0x00 3
-    × BranchTakes 0x10FE 0xFF 4 × BranchTakes 0xFFF0 0x20 4
+    × BranchTakes 0x10FE 0xFF 4 × BranchTakes 0xFFF0 0x20 4 × BranchTakes 0xFFFE 0x00 3
 
 -- each branch takes 3 where it is taken, and 2 where it isn't: where its flag alone is set, and where all others are
 abbrev pub BranchTakesBy : ℕ → Cpu → Cpu → Bool → Type 0

@@ -3,7 +3,7 @@
 ghost use Rattle.cpu6502.specs.Opcodes.{OpcodesHaveRows, RowsHaveOpcodes};
 ghost use Rattle.cpu6502.specs.Rows.{TableHas151Rows, RowsDiffer, CyclesAreCounted, ReadsHaveRows, StoresHaveRows};
 ghost use Rattle.cpu6502.specs.Rows.{ChangesHaveRows, OthersHaveRows, UndocumentedBytesHaveNone, MissingModesHaveNone};
-ghost use Rattle.cpu6502.specs.Manual.{EffectsTakeCycles, RowsHaveTheseCycles};
+ghost use Rattle.cpu6502.specs.Manual.{CyclesAreInRange, EffectsTakeCycles, RowsHaveTheseCycles};
 ghost use Rattle.cpu6502.specs.Stops.{StopsHaveCauses};
 ghost use Rattle.cpu6502.specs.Machines.{CallsKeepMachines, StepsKeepMachines};
 ghost use Rattle.cpu6502.specs.Sums.{DifferencesAreOfNumbers, SumsAreOfNumbers};
@@ -36,10 +36,11 @@ pub fn worked_rows()
 {}
 
 /// Each row of the table has the cycles that the manual's tables have for what it does and its mode; and an instruction
-/// takes cycles exactly where it has an effect.
+/// takes cycles exactly where it has an effect, and then 2 to 7.
 pub fn cycles_are_the_manuals()
     ensures rows { RowsHaveTheseCycles }
     ensures effects { EffectsTakeCycles }
+    ensures range { CyclesAreInRange }
 {}
 
 /// A step stops as Illegal exactly where the byte at the program counter has no row, as Break exactly at BRK, and as

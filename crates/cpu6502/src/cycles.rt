@@ -37,8 +37,9 @@ fn crosses(from: u16, to: u16) -> bool
     from / 256 != to / 256
 }
 
-/// What reads a byte and may have an index.
-fn is_read(mnemonic: Mnemonic) -> bool
+/// Whether an instruction reads a byte, writes none, and may have an index: it takes one cycle more where that leads into
+/// another page.
+pub fn is_read(mnemonic: Mnemonic) -> bool
     ensures { result ≡ is_read mnemonic }
 {
     matches!(
@@ -55,8 +56,8 @@ fn is_read(mnemonic: Mnemonic) -> bool
     )
 }
 
-/// The modes whose index is added to a place of two bytes.
-fn is_paged(mode: Mode) -> bool
+/// Whether a mode adds its index to a place of two bytes, which may lead into another page.
+pub fn is_paged(mode: Mode) -> bool
     ensures { result ≡ is_paged mode }
 {
     matches!(mode, Mode::AbsoluteX | Mode::AbsoluteY | Mode::IndirectY)
