@@ -13,15 +13,15 @@ use Rattle.scopes.specs.Desk.{Desk, Layout, operand_place}
 use Rattle.scopes.specs.Steps.{done, done_with}
 use Rattle.scopes.specs.Trees.{Tree, DoTree, WithTree, NoneTree, ThenTree, ScopeTree, LeaveTree, LeaveIfTree, LoopTree}
 use Rattle.scopes.specs.Trees.{AgainTree, AgainIfTree, WhenTree, ChooseTree, NeverTree}
-use Rattle.scopes.specs.Meaning.{Outcome, Done, Left, Again, Stuck, Ran, each_one, is_met, ended, stepped, behind as then_behind}
+use Rattle.scopes.specs.Meaning.{Outcome, Done, Left, Again, Stuck, Ran, each_one, is_met, ended, stepped, behind as then_behind, turns_in}
 use Rattle.scopes.specs.Meaning.{and_then, out_of_scope, next_turn, turns, ran}
 use Rattle.scope_lines.specs.Sizes.{size}
 use Rattle.scope_lines.specs.Instructions.{mode_of}
 use Rattle.scope_lines.specs.Lines.{in_scope as around_scope, in_loop as around_loop}
 use Rattle.scope_lines.specs.Cycles.{with_cycles, test_cycles, if_done, if_again, turn_cycles, cycles}
-use Rattle.cycle_bound.specs.Rules.{alone_most, with_most, jump_most, passed_most, taken_most, Ends, nowhere, in_scope, entry}
+use Rattle.cycle_bound.specs.Rules.{alone_most, with_most, jump_most, passed_most, taken_most, Ends, nowhere, in_scope, entry, Setting}
 use Rattle.cycle_bound.specs.Rules.{behind_first, furthest, nodes, asked, Reaches}
-use Rattle.cycle_bound.specs.Bounds.{number_at, TreesKeepBounds, BlocksKeepBounds}
+use Rattle.cycle_bound.specs.Bounds.{number_at, TreesKeepBounds, BlocksKeepBounds, setting_of}
 
 -- ---- lists of numbers
 
@@ -53,7 +53,7 @@ entry_both (suc n) [] behind = refl
 entry_both (suc n) (number ∷ numbers) behind = refl
 
 -- there are as many as lines
-length_both : (one two : List ℕ) (m n : ℕ) → length one ≡ m → length two ≡ n → length (one ++ two) ≡ m + n
+pub length_both : (one two : List ℕ) (m n : ℕ) → length one ≡ m → length two ≡ n → length (one ++ two) ≡ m + n
 length_both [] two m n e f = omega (arith, e, f)
 length_both (x ∷ one) two zero n e f = absurd (omega (arith, e))
 length_both (x ∷ one) two (suc m) n e f =
@@ -61,37 +61,37 @@ length_both (x ∷ one) two (suc m) n e f =
     let rest = length_both one two m n less f in
     omega (arith, rest)
 
-one_more : (n m : ℕ) → n ≡ m → suc n ≡ 1 + m
+pub one_more : (n m : ℕ) → n ≡ m → suc n ≡ 1 + m
 one_more n m e = omega (arith, e)
 
-pub asked_count : (holds : ℕ → Bool) (ends : Ends) (behind : ℕ) (tree : Tree) (numbers : List ℕ) →
-    length (asked holds ends behind tree numbers) ≡ nodes tree
-asked_count holds ends behind (DoTree mnemonic) numbers = refl
-asked_count holds ends behind (WithTree mnemonic operand) numbers = refl
-asked_count holds ends behind NoneTree numbers = refl
-asked_count holds ends behind (ThenTree first rest) numbers =
+pub asked_count : (setting : Setting) (ends : Ends) (behind : ℕ) (tree : Tree) (numbers : List ℕ) →
+    length (asked setting ends behind tree numbers) ≡ nodes tree
+asked_count setting ends behind (DoTree mnemonic) numbers = refl
+asked_count setting ends behind (WithTree mnemonic operand) numbers = refl
+asked_count setting ends behind NoneTree numbers = refl
+asked_count setting ends behind (ThenTree first rest) numbers =
     length_both
-    (asked holds ends (entry (drop (nodes first) numbers) behind) first (take (nodes first) numbers))
-    (asked holds ends behind rest (drop (nodes first) numbers)) (nodes first) (nodes rest)
-    (asked_count holds ends (entry (drop (nodes first) numbers) behind) first (take (nodes first) numbers))
-    (asked_count holds ends behind rest (drop (nodes first) numbers))
-asked_count holds ends behind (ScopeTree name body) numbers =
-    one_more _ _ (asked_count holds (in_scope name behind ends) behind body (behind_first numbers))
-asked_count holds ends behind (LeaveTree name) numbers = refl
-asked_count holds ends behind (LeaveIfTree name test) numbers = refl
-asked_count holds ends behind (LoopTree count body) numbers =
-    one_more _ _ (asked_count holds nowhere 0 body (behind_first numbers))
-asked_count holds ends behind AgainTree numbers = refl
-asked_count holds ends behind (AgainIfTree test) numbers = refl
-asked_count holds ends behind (WhenTree condition body) numbers =
-    one_more _ _ (asked_count holds ends behind body (behind_first numbers))
-asked_count holds ends behind (ChooseTree condition this other) numbers =
+    (asked setting ends (entry (drop (nodes first) numbers) behind) first (take (nodes first) numbers))
+    (asked setting ends behind rest (drop (nodes first) numbers)) (nodes first) (nodes rest)
+    (asked_count setting ends (entry (drop (nodes first) numbers) behind) first (take (nodes first) numbers))
+    (asked_count setting ends behind rest (drop (nodes first) numbers))
+asked_count setting ends behind (ScopeTree name body) numbers =
+    one_more _ _ (asked_count setting (in_scope name behind ends) behind body (behind_first numbers))
+asked_count setting ends behind (LeaveTree name) numbers = refl
+asked_count setting ends behind (LeaveIfTree name test) numbers = refl
+asked_count setting ends behind (LoopTree count body) numbers =
+    one_more _ _ (asked_count setting nowhere 0 body (behind_first numbers))
+asked_count setting ends behind AgainTree numbers = refl
+asked_count setting ends behind (AgainIfTree test) numbers = refl
+asked_count setting ends behind (WhenTree condition body) numbers =
+    one_more _ _ (asked_count setting ends behind body (behind_first numbers))
+asked_count setting ends behind (ChooseTree condition this other) numbers =
     one_more _ _
-    (length_both (asked holds ends behind this (take (nodes this) (behind_first numbers)))
-    (asked holds ends behind other (drop (nodes this) (behind_first numbers))) (nodes this) (nodes other)
-    (asked_count holds ends behind this (take (nodes this) (behind_first numbers)))
-    (asked_count holds ends behind other (drop (nodes this) (behind_first numbers))))
-asked_count holds ends behind NeverTree numbers = refl
+    (length_both (asked setting ends behind this (take (nodes this) (behind_first numbers)))
+    (asked setting ends behind other (drop (nodes this) (behind_first numbers))) (nodes this) (nodes other)
+    (asked_count setting ends behind this (take (nodes this) (behind_first numbers)))
+    (asked_count setting ends behind other (drop (nodes this) (behind_first numbers))))
+asked_count setting ends behind NeverTree numbers = refl
 
 -- ---- single lines
 
@@ -260,7 +260,7 @@ tree_leaves layout ends (LeaveTree name) desk = omega arith
 tree_leaves layout ends (LeaveIfTree name test) desk = test_leaves ends (Left name) desk (is_met test desk)
 tree_leaves layout ends (LoopTree count body) desk =
     turns_leave ends (furthest layout.holds ends body) (ran each_one layout body) (tree_leaves layout ends body)
-    count desk
+    (turns_in layout.open_turns count) desk
 tree_leaves layout ends AgainTree desk = omega arith
 tree_leaves layout ends (AgainIfTree test) desk = test_leaves ends Again desk (is_met test desk)
 tree_leaves layout ends (WhenTree condition body) desk =
@@ -337,9 +337,9 @@ trees_keep_bounds layout around place ends behind NoneTree (number ∷ numbers) 
 trees_keep_bounds layout around place ends behind (ThenTree first rest) numbers desk reaches =
     let ys = drop (nodes first) numbers in
     let mid = entry ys behind in
-    let one = asked layout.holds ends mid first (take (nodes first) numbers) in
-    let two = asked layout.holds ends behind rest ys in
-    let count = asked_count layout.holds ends mid first (take (nodes first) numbers) in
+    let one = asked (setting_of layout) ends mid first (take (nodes first) numbers) in
+    let two = asked (setting_of layout) ends behind rest ys in
+    let count = asked_count (setting_of layout) ends mid first (take (nodes first) numbers) in
     let both =
     subst (λ n. Reaches one (take n numbers) × Reaches two (drop n numbers)) count
     (reaches_both one two numbers reaches) in
@@ -352,7 +352,7 @@ trees_keep_bounds layout around place ends behind (ThenTree first rest) numbers 
     (cycles layout around (place + size around.holds first) rest) here
     (λ d. trees_keep_bounds layout around (place + size around.holds first) ends behind rest ys d both.1))
 trees_keep_bounds layout around place ends behind (ScopeTree name body) numbers desk reaches =
-    let more = asked layout.holds (in_scope name behind ends) behind body (behind_first numbers) in
+    let more = asked (setting_of layout) (in_scope name behind ends) behind body (behind_first numbers) in
     let inner = around_scope name (place + size around.holds body) around in
     let here =
     trees_keep_bounds layout inner place (in_scope name behind ends) behind body (behind_first numbers) desk
@@ -367,23 +367,24 @@ trees_keep_bounds layout around place ends behind (LeaveIfTree name test) number
 trees_keep_bounds layout around place ends behind (LoopTree count body) numbers desk reaches =
     let far = max behind (furthest layout.holds ends body) in
     let most = entry (behind_first numbers) 0 in
+    let turns = turns_in layout.open_turns count in
     let inside = around_loop place around in
-    let more = asked layout.holds nowhere 0 body (behind_first numbers) in
+    let more = asked (setting_of layout) nowhere 0 body (behind_first numbers) in
     within
     (turns_keep ends behind most far (ran each_one layout body) (cycles layout inside place body)
     (le-max_left behind (furthest layout.holds ends body))
     (λ d.
     let all =
-    trees_keep_bounds layout inside place nowhere 0 body (behind_first numbers) d (rest_reaches (count * most + far) more numbers reaches) in
+    trees_keep_bounds layout inside place nowhere 0 body (behind_first numbers) d (rest_reaches (turns * most + far) more numbers reaches) in
     omega (arith, all))
-    (λ d. within (tree_leaves layout ends body d) (le-max_right behind (furthest layout.holds ends body))) count desk)
-    (first_reaches (count * most + far) more numbers behind reaches)
+    (λ d. within (tree_leaves layout ends body d) (le-max_right behind (furthest layout.holds ends body))) turns desk)
+    (first_reaches (turns * most + far) more numbers behind reaches)
 trees_keep_bounds layout around place ends behind AgainTree numbers desk reaches =
     first_reaches jump_most [] numbers behind reaches
 trees_keep_bounds layout around place ends behind (AgainIfTree test) numbers desk reaches =
     within (tests_keep ends behind _ _ Again (is_met test desk) desk) (first_reaches (max (passed_most + behind) taken_most) [] numbers behind reaches)
 trees_keep_bounds layout around place ends behind (WhenTree condition body) numbers desk reaches =
-    let more = asked layout.holds ends behind body (behind_first numbers) in
+    let more = asked (setting_of layout) ends behind body (behind_first numbers) in
     let least = if layout.holds condition then entry (behind_first numbers) behind else behind in
     within
     (sides_keep ends behind _ _ _ _ (ran each_one layout body desk) (ended Done desk 0) (layout.holds condition)
@@ -393,12 +394,12 @@ trees_keep_bounds layout around place ends behind (WhenTree condition body) numb
 trees_keep_bounds layout around place ends behind (ChooseTree condition this other) numbers desk reaches =
     let xs = take (nodes this) (behind_first numbers) in
     let ys = drop (nodes this) (behind_first numbers) in
-    let one = asked layout.holds ends behind this xs in
-    let two = asked layout.holds ends behind other ys in
+    let one = asked (setting_of layout) ends behind this xs in
+    let two = asked (setting_of layout) ends behind other ys in
     let least = if layout.holds condition then entry xs behind else entry ys behind in
     let both =
     subst (λ n. Reaches one (take n (behind_first numbers)) × Reaches two (drop n (behind_first numbers)))
-    (asked_count layout.holds ends behind this xs)
+    (asked_count (setting_of layout) ends behind this xs)
     (reaches_both one two (behind_first numbers) (rest_reaches least (one ++ two) numbers reaches)) in
     within
     (sides_keep ends behind _ _ _ _ (ran each_one layout this desk) (ran each_one layout other desk)

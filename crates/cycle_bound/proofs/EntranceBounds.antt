@@ -13,10 +13,11 @@ use Rattle.cycle_bound.specs.Rules.{nowhere, entry, behind_first, asked, Reaches
 use Rattle.cycle_bound.specs.EntranceRules.{voice_most, voice_asked, first_numbers, voice_numbers}
 use Rattle.cycle_bound.specs.EntranceRules.{EntrancesKeepBounds}
 use Rattle.cycle_bound.proofs.Bounds.{first_reaches, rest_reaches, reaches_both, asked_count, blocks_keep_bounds}
+use Rattle.cycle_bound.specs.Bounds.{setting_of}
 
 -- the voices: each takes at most the number at the first line of its block
 voices_keep : (layout : Layout) (e : Entrance) (voice : Option Tree) (place : ℕ) (numbers : List ℕ) (desk : Desk) →
-    Reaches (voice_asked layout.holds voice numbers) numbers →
+    Reaches (voice_asked (setting_of layout) voice numbers) numbers →
     voices_cycles layout e voice place desk ≤ voice_most voice numbers
 voices_keep layout e None place numbers desk reaches = omega arith
 voices_keep layout e (Some block) place numbers desk reaches =
@@ -35,16 +36,17 @@ pub entrances_keep_bounds : EntrancesKeepBounds
 entrances_keep_bounds e machine number numbers admits =
     let layout = layout_at e in
     let own = e.entrance in
+    let setting = setting_of layout in
     let around = block_around own.label own.pointer own.holds in
-    let xs = first_numbers own numbers in
-    let ys = voice_numbers own numbers in
-    let one = asked own.holds nowhere 0 own.first xs in
-    let two = voice_asked own.holds own.voice ys in
+    let xs = first_numbers own.first numbers in
+    let ys = voice_numbers own.first numbers in
+    let one = asked setting nowhere 0 own.first xs in
+    let two = voice_asked setting own.voice ys in
     let desk = cleared (entrance_desk e machine number) in
     let place = layout.address own.label + voices_place own in
     let both =
     subst (λ n. Reaches one (take n (behind_first numbers)) × Reaches two (drop n (behind_first numbers)))
-    (asked_count own.holds nowhere 0 own.first xs)
+    (asked_count setting nowhere 0 own.first xs)
     (reaches_both one two (behind_first numbers)
     (rest_reaches (entry xs 0 + voice_most own.voice ys) (one ++ two) numbers admits)) in
     let all = first_reaches (entry xs 0 + voice_most own.voice ys) (one ++ two) numbers 0 admits in

@@ -4,12 +4,12 @@ use Rattle.std.proofs.Common.{take, drop, Option, Some, None, refl, sym, ap, ◌
 use Rattle.std.proofs.Math.Nat.{le-max_left, le-max_right, max-le}
 use Rattle.scopes.specs.Trees.{Tree, DoTree, WithTree, NoneTree, ThenTree, ScopeTree, LeaveTree, LeaveIfTree, LoopTree}
 use Rattle.scopes.specs.Trees.{AgainTree, AgainIfTree, WhenTree, ChooseTree, NeverTree}
-use Rattle.scope_calls.specs.Entrances.{Entrance}
-use Rattle.cycle_bound.specs.Rules.{Ends, nowhere, in_scope}
+use Rattle.cycle_bound.specs.Rules.{Ends, nowhere, in_scope, Setting}
 use Rattle.cycle_bound.specs.Rules.{entry, behind_first, furthest, nodes, asked, Reaches}
-use Rattle.cycle_bound.specs.EntranceRules.{voice_most, voice_asked, first_numbers, voice_numbers, entrance_asked}
+use Rattle.cycle_bound.specs.EntranceRules.{voice_most, voice_asked, first_numbers, voice_numbers, call_asked}
 use Rattle.cycle_bound.specs.Least.{least, least_of, least_voice, least_all, LeastAreLeast}
-use Rattle.cycle_bound.proofs.Bounds.{reaches_both, rest_reaches, asked_count}
+use Rattle.cycle_bound.proofs.Bounds.{length_both, one_more, reaches_both, rest_reaches, asked_count}
+use Rattle.scopes.specs.Meaning.{turns_in}
 
 -- ---- lists
 
@@ -31,88 +31,77 @@ drop_length (x ∷ one) two zero e = absurd (omega (arith, e))
 drop_length (x ∷ one) two (suc n) e =
     let less : length one ≡ n = omega (arith, e) in drop_length one two n less
 
-length_both : (one two : List ℕ) (m n : ℕ) → length one ≡ m → length two ≡ n → length (one ++ two) ≡ m + n
-length_both [] two m n e f = omega (arith, e, f)
-length_both (x ∷ one) two zero n e f = absurd (omega (arith, e))
-length_both (x ∷ one) two (suc m) n e f =
-    let less : length one ≡ m = omega (arith, e) in
-    let rest = length_both one two m n less f in
-    omega (arith, rest)
-
-one_more : (n m : ℕ) → n ≡ m → suc n ≡ 1 + m
-one_more n m e = omega (arith, e)
-
-least_count : (holds : ℕ → Bool) (ends : Ends) (behind : ℕ) (tree : Tree) →
-    length (least holds ends behind tree) ≡ nodes tree
-least_count holds ends behind (DoTree mnemonic) = refl
-least_count holds ends behind (WithTree mnemonic operand) = refl
-least_count holds ends behind NoneTree = refl
-least_count holds ends behind (ThenTree first rest) =
-    length_both (least holds ends (entry (least holds ends behind rest) behind) first)
-    (least holds ends behind rest) (nodes first) (nodes rest)
-    (least_count holds ends (entry (least holds ends behind rest) behind) first)
-    (least_count holds ends behind rest)
-least_count holds ends behind (ScopeTree name body) =
-    one_more _ _ (least_count holds (in_scope name behind ends) behind body)
-least_count holds ends behind (LeaveTree name) = refl
-least_count holds ends behind (LeaveIfTree name test) = refl
-least_count holds ends behind (LoopTree count body) = one_more _ _ (least_count holds nowhere 0 body)
-least_count holds ends behind AgainTree = refl
-least_count holds ends behind (AgainIfTree test) = refl
-least_count holds ends behind (WhenTree condition body) = one_more _ _ (least_count holds ends behind body)
-least_count holds ends behind (ChooseTree condition this other) =
+least_count : (setting : Setting) (ends : Ends) (behind : ℕ) (tree : Tree) →
+    length (least setting ends behind tree) ≡ nodes tree
+least_count setting ends behind (DoTree mnemonic) = refl
+least_count setting ends behind (WithTree mnemonic operand) = refl
+least_count setting ends behind NoneTree = refl
+least_count setting ends behind (ThenTree first rest) =
+    length_both (least setting ends (entry (least setting ends behind rest) behind) first)
+    (least setting ends behind rest) (nodes first) (nodes rest)
+    (least_count setting ends (entry (least setting ends behind rest) behind) first)
+    (least_count setting ends behind rest)
+least_count setting ends behind (ScopeTree name body) =
+    one_more _ _ (least_count setting (in_scope name behind ends) behind body)
+least_count setting ends behind (LeaveTree name) = refl
+least_count setting ends behind (LeaveIfTree name test) = refl
+least_count setting ends behind (LoopTree count body) = one_more _ _ (least_count setting nowhere 0 body)
+least_count setting ends behind AgainTree = refl
+least_count setting ends behind (AgainIfTree test) = refl
+least_count setting ends behind (WhenTree condition body) = one_more _ _ (least_count setting ends behind body)
+least_count setting ends behind (ChooseTree condition this other) =
     one_more _ _
-    (length_both (least holds ends behind this) (least holds ends behind other) (nodes this) (nodes other)
-    (least_count holds ends behind this) (least_count holds ends behind other))
-least_count holds ends behind NeverTree = refl
+    (length_both (least setting ends behind this) (least setting ends behind other) (nodes this) (nodes other)
+    (least_count setting ends behind this) (least_count setting ends behind other))
+least_count setting ends behind NeverTree = refl
 
 -- ---- what the rules ask of the least numbers is these
 
-two_lists : {a b c d : List ℕ} → a ≡ b → c ≡ d → (a ++ c) ≡ (b ++ d)
+pub two_lists : {a b c d : List ℕ} → a ≡ b → c ≡ d → (a ++ c) ≡ (b ++ d)
 two_lists {b = b} {c = c} e f = ap (λ l. l ++ c) e ∙ ap (λ l. b ++ l) f
 
-least_asked : (holds : ℕ → Bool) (ends : Ends) (behind : ℕ) (tree : Tree) →
-    asked holds ends behind tree (least holds ends behind tree) ≡ least holds ends behind tree
-least_asked holds ends behind (DoTree mnemonic) = refl
-least_asked holds ends behind (WithTree mnemonic operand) = refl
-least_asked holds ends behind NoneTree = refl
-least_asked holds ends behind (ThenTree first rest) =
-    let ys = least holds ends behind rest in
-    let xs = least holds ends (entry ys behind) first in
-    let count = least_count holds ends (entry ys behind) first in
+least_asked : (setting : Setting) (ends : Ends) (behind : ℕ) (tree : Tree) →
+    asked setting ends behind tree (least setting ends behind tree) ≡ least setting ends behind tree
+least_asked setting ends behind (DoTree mnemonic) = refl
+least_asked setting ends behind (WithTree mnemonic operand) = refl
+least_asked setting ends behind NoneTree = refl
+least_asked setting ends behind (ThenTree first rest) =
+    let ys = least setting ends behind rest in
+    let xs = least setting ends (entry ys behind) first in
+    let count = least_count setting ends (entry ys behind) first in
     let firsts = take_length xs ys (nodes first) count in
     let rests = drop_length xs ys (nodes first) count in
     two_lists
-    (ap (λ l. asked holds ends (entry l behind) first (take (nodes first) (xs ++ ys))) rests
-    ∙ (ap (λ l. asked holds ends (entry ys behind) first l) firsts
-    ∙ least_asked holds ends (entry ys behind) first))
-    (ap (λ l. asked holds ends behind rest l) rests ∙ least_asked holds ends behind rest)
-least_asked holds ends behind (ScopeTree name body) =
-    ap (λ l. entry (least holds (in_scope name behind ends) behind body) behind ∷ l)
-    (least_asked holds (in_scope name behind ends) behind body)
-least_asked holds ends behind (LeaveTree name) = refl
-least_asked holds ends behind (LeaveIfTree name test) = refl
-least_asked holds ends behind (LoopTree count body) =
-    ap (λ l. (count * entry (least holds nowhere 0 body) 0 + max behind (furthest holds ends body)) ∷ l)
-    (least_asked holds nowhere 0 body)
-least_asked holds ends behind AgainTree = refl
-least_asked holds ends behind (AgainIfTree test) = refl
-least_asked holds ends behind (WhenTree condition body) =
-    ap (λ l. (if holds condition then entry (least holds ends behind body) behind else behind) ∷ l)
-    (least_asked holds ends behind body)
-least_asked holds ends behind (ChooseTree condition this other) =
-    let xs = least holds ends behind this in
-    let ys = least holds ends behind other in
-    let count = least_count holds ends behind this in
+    (ap (λ l. asked setting ends (entry l behind) first (take (nodes first) (xs ++ ys))) rests
+    ∙ (ap (λ l. asked setting ends (entry ys behind) first l) firsts
+    ∙ least_asked setting ends (entry ys behind) first))
+    (ap (λ l. asked setting ends behind rest l) rests ∙ least_asked setting ends behind rest)
+least_asked setting ends behind (ScopeTree name body) =
+    ap (λ l. entry (least setting (in_scope name behind ends) behind body) behind ∷ l)
+    (least_asked setting (in_scope name behind ends) behind body)
+least_asked setting ends behind (LeaveTree name) = refl
+least_asked setting ends behind (LeaveIfTree name test) = refl
+least_asked setting ends behind (LoopTree count body) =
+    ap (λ l. (turns_in setting.open_turns count * entry (least setting nowhere 0 body) 0 + max behind (furthest setting.holds ends body)) ∷ l)
+    (least_asked setting nowhere 0 body)
+least_asked setting ends behind AgainTree = refl
+least_asked setting ends behind (AgainIfTree test) = refl
+least_asked setting ends behind (WhenTree condition body) =
+    ap (λ l. (if setting.holds condition then entry (least setting ends behind body) behind else behind) ∷ l)
+    (least_asked setting ends behind body)
+least_asked setting ends behind (ChooseTree condition this other) =
+    let xs = least setting ends behind this in
+    let ys = least setting ends behind other in
+    let count = least_count setting ends behind this in
     let firsts = take_length xs ys (nodes this) count in
     let rests = drop_length xs ys (nodes this) count in
-    ap (λ l. (if holds condition then entry l behind else entry (drop (nodes this) (xs ++ ys)) behind)
-    ∷ (asked holds ends behind this l ++ asked holds ends behind other (drop (nodes this) (xs ++ ys)))) firsts
-    ∙ (ap (λ l. (if holds condition then entry xs behind else entry l behind)
-    ∷ (asked holds ends behind this xs ++ asked holds ends behind other l)) rests
-    ∙ ap (λ l. (if holds condition then entry xs behind else entry ys behind) ∷ l)
-    (two_lists (least_asked holds ends behind this) (least_asked holds ends behind other)))
-least_asked holds ends behind NeverTree = refl
+    ap (λ l. (if setting.holds condition then entry l behind else entry (drop (nodes this) (xs ++ ys)) behind)
+    ∷ (asked setting ends behind this l ++ asked setting ends behind other (drop (nodes this) (xs ++ ys)))) firsts
+    ∙ (ap (λ l. (if setting.holds condition then entry xs behind else entry l behind)
+    ∷ (asked setting ends behind this xs ++ asked setting ends behind other l)) rests
+    ∙ ap (λ l. (if setting.holds condition then entry xs behind else entry ys behind) ∷ l)
+    (two_lists (least_asked setting ends behind this) (least_asked setting ends behind other)))
+least_asked setting ends behind NeverTree = refl
 
 -- ---- whatever is admitted reaches them
 
@@ -192,57 +181,58 @@ reaches_join (x ∷ one) two (number ∷ numbers) (suc n) e here there =
 inner : (asks : ℕ) (others numbers : List ℕ) → Reaches (asks ∷ others) numbers → Reaches others (behind_first numbers)
 inner asks others numbers reaches = rest_reaches asks others numbers reaches
 
-least_reached : (holds : ℕ → Bool) (one two : Ends) (behind more : ℕ) (tree : Tree) (numbers : List ℕ) →
-    IsBelow one two → behind ≤ more → Reaches (asked holds two more tree numbers) numbers →
-    Reaches (least holds one behind tree) numbers
-least_reached holds one two behind more (DoTree mnemonic) numbers below few reaches =
+least_reached : (setting : Setting) (one two : Ends) (behind more : ℕ) (tree : Tree) (numbers : List ℕ) →
+    IsBelow one two → behind ≤ more → Reaches (asked setting two more tree numbers) numbers →
+    Reaches (least setting one behind tree) numbers
+least_reached setting one two behind more (DoTree mnemonic) numbers below few reaches =
     lower_one _ _ numbers (omega (arith, few)) reaches
-least_reached holds one two behind more (WithTree mnemonic operand) numbers below few reaches =
+least_reached setting one two behind more (WithTree mnemonic operand) numbers below few reaches =
     lower_one _ _ numbers (omega (arith, few)) reaches
-least_reached holds one two behind more NoneTree numbers below few reaches = reaches
-least_reached holds one two behind more (ThenTree first rest) numbers below few reaches =
+least_reached setting one two behind more NoneTree numbers below few reaches = reaches
+least_reached setting one two behind more (ThenTree first rest) numbers below few reaches =
     let ys = drop (nodes first) numbers in
     let xs = take (nodes first) numbers in
     let mid = entry ys more in
-    let asks = asked holds two mid first xs in
-    let others = asked holds two more rest ys in
+    let asks = asked setting two mid first xs in
+    let others = asked setting two more rest ys in
     let both =
-    subst (λ n. Reaches asks (take n numbers) × Reaches others (drop n numbers)) (asked_count holds two mid first xs)
+    subst (λ n. Reaches asks (take n numbers) × Reaches others (drop n numbers)) (asked_count setting two mid first xs)
     (reaches_both asks others numbers reaches) in
-    let behinds = least_reached holds one two behind more rest ys below few both.1 in
-    let own = entry (least holds one behind rest) behind in
+    let behinds = least_reached setting one two behind more rest ys below few both.1 in
+    let own = entry (least setting one behind rest) behind in
     let fronts =
-    least_reached holds one two own mid first xs below (entry_below (least holds one behind rest) ys behinds few) both.0
+    least_reached setting one two own mid first xs below (entry_below (least setting one behind rest) ys behinds few) both.0
     in
-    reaches_join (least holds one own first) (least holds one behind rest) numbers (nodes first)
-    (least_count holds one own first) fronts behinds
-least_reached holds one two behind more (ScopeTree name body) numbers below few reaches =
+    reaches_join (least setting one own first) (least setting one behind rest) numbers (nodes first)
+    (least_count setting one own first) fronts behinds
+least_reached setting one two behind more (ScopeTree name body) numbers below few reaches =
     let asks = entry (behind_first numbers) more in
-    let others = asked holds (in_scope name more two) more body (behind_first numbers) in
+    let others = asked setting (in_scope name more two) more body (behind_first numbers) in
     let body_reached =
-    least_reached holds (in_scope name behind one) (in_scope name more two) behind more body (behind_first numbers)
+    least_reached setting (in_scope name behind one) (in_scope name more two) behind more body (behind_first numbers)
     (scope_below name behind more few below) few (inner asks others numbers reaches) in
-    lower_first asks (entry (least holds (in_scope name behind one) behind body) behind) others
-    (least holds (in_scope name behind one) behind body) numbers
-    (entry_below (least holds (in_scope name behind one) behind body) (behind_first numbers) body_reached few) reaches
+    lower_first asks (entry (least setting (in_scope name behind one) behind body) behind) others
+    (least setting (in_scope name behind one) behind body) numbers
+    (entry_below (least setting (in_scope name behind one) behind body) (behind_first numbers) body_reached few) reaches
     body_reached
-least_reached holds one two behind more (LeaveTree name) numbers below few reaches =
+least_reached setting one two behind more (LeaveTree name) numbers below few reaches =
     let less = below.ends name in lower_one _ _ numbers (omega (arith, less)) reaches
-least_reached holds one two behind more (LeaveIfTree name test) numbers below few reaches =
+least_reached setting one two behind more (LeaveIfTree name test) numbers below few reaches =
     let less = below.ends name in
     lower_one _ _ numbers (two_most (omega (arith, few)) (omega (arith, less))) reaches
-least_reached holds one two behind more (LoopTree count body) numbers below few reaches =
+least_reached setting one two behind more (LoopTree count body) numbers below few reaches =
     let most = entry (behind_first numbers) 0 in
-    let asks = count * most + max more (furthest holds two body) in
-    let others = asked holds nowhere 0 body (behind_first numbers) in
+    let turns = turns_in setting.open_turns count in
+    let asks = turns * most + max more (furthest setting.holds two body) in
+    let others = asked setting nowhere 0 body (behind_first numbers) in
     let body_reached =
-    least_reached holds nowhere nowhere 0 0 body (behind_first numbers) (itself_below nowhere) (omega arith)
+    least_reached setting nowhere nowhere 0 0 body (behind_first numbers) (itself_below nowhere) (omega arith)
     (inner asks others numbers reaches) in
-    let own = entry (least holds nowhere 0 body) 0 in
-    let far = two_most few (furthest_below holds body one two below) in
-    let turn = times_below count own most
-    (entry_below (least holds nowhere 0 body) (behind_first numbers) body_reached (omega arith)) in
-    lower_first asks (count * own + max behind (furthest holds one body)) others (least holds nowhere 0 body) numbers
+    let own = entry (least setting nowhere 0 body) 0 in
+    let far = two_most few (furthest_below setting.holds body one two below) in
+    let turn = times_below turns own most
+    (entry_below (least setting nowhere 0 body) (behind_first numbers) body_reached (omega arith)) in
+    lower_first asks (turns * own + max behind (furthest setting.holds one body)) others (least setting nowhere 0 body) numbers
     (omega (arith, turn, far)) reaches body_reached
   where
     times_below : (n a b : ℕ) → a ≤ b → n * a ≤ n * b
@@ -252,97 +242,97 @@ least_reached holds one two behind more (LoopTree count body) numbers below few 
         let x : suc n * a ≡ a + n * a = omega arith in
         let y : suc n * b ≡ b + n * b = omega arith in
         omega (arith, rest, x, y, less)
-least_reached holds one two behind more AgainTree numbers below few reaches =
+least_reached setting one two behind more AgainTree numbers below few reaches =
     lower_one _ _ numbers (omega arith) reaches
-least_reached holds one two behind more (AgainIfTree test) numbers below few reaches =
+least_reached setting one two behind more (AgainIfTree test) numbers below few reaches =
     lower_one _ _ numbers (two_most (omega (arith, few)) (omega arith)) reaches
-least_reached holds one two behind more (WhenTree condition body) numbers below few reaches =
-    let asks = if holds condition then entry (behind_first numbers) more else more in
-    let others = asked holds two more body (behind_first numbers) in
+least_reached setting one two behind more (WhenTree condition body) numbers below few reaches =
+    let asks = if setting.holds condition then entry (behind_first numbers) more else more in
+    let others = asked setting two more body (behind_first numbers) in
     let body_reached =
-    least_reached holds one two behind more body (behind_first numbers) below few (inner asks others numbers reaches) in
-    lower_first asks (if holds condition then entry (least holds one behind body) behind else behind) others
-    (least holds one behind body) numbers
-    (sides_below (holds condition) (entry_below (least holds one behind body) (behind_first numbers) body_reached few)
+    least_reached setting one two behind more body (behind_first numbers) below few (inner asks others numbers reaches) in
+    lower_first asks (if setting.holds condition then entry (least setting one behind body) behind else behind) others
+    (least setting one behind body) numbers
+    (sides_below (setting.holds condition) (entry_below (least setting one behind body) (behind_first numbers) body_reached few)
     few) reaches body_reached
-least_reached holds one two behind more (ChooseTree condition this other) numbers below few reaches =
+least_reached setting one two behind more (ChooseTree condition this other) numbers below few reaches =
     let xs = take (nodes this) (behind_first numbers) in
     let ys = drop (nodes this) (behind_first numbers) in
-    let asks = if holds condition then entry xs more else entry ys more in
-    let first = asked holds two more this xs in
-    let second = asked holds two more other ys in
+    let asks = if setting.holds condition then entry xs more else entry ys more in
+    let first = asked setting two more this xs in
+    let second = asked setting two more other ys in
     let both =
     subst (λ n. Reaches first (take n (behind_first numbers)) × Reaches second (drop n (behind_first numbers)))
-    (asked_count holds two more this xs)
+    (asked_count setting two more this xs)
     (reaches_both first second (behind_first numbers) (inner asks (first ++ second) numbers reaches)) in
-    let here = least_reached holds one two behind more this xs below few both.0 in
-    let there = least_reached holds one two behind more other ys below few both.1 in
+    let here = least_reached setting one two behind more this xs below few both.0 in
+    let there = least_reached setting one two behind more other ys below few both.1 in
     lower_first asks
-    (if holds condition then entry (least holds one behind this) behind else entry (least holds one behind other) behind)
-    (first ++ second) (least holds one behind this ++ least holds one behind other) numbers
-    (sides_below (holds condition) (entry_below (least holds one behind this) xs here few)
-    (entry_below (least holds one behind other) ys there few)) reaches
-    (reaches_join (least holds one behind this) (least holds one behind other) (behind_first numbers) (nodes this)
-    (least_count holds one behind this) here there)
-least_reached holds one two behind more NeverTree numbers below few reaches = reaches
+    (if setting.holds condition then entry (least setting one behind this) behind else entry (least setting one behind other) behind)
+    (first ++ second) (least setting one behind this ++ least setting one behind other) numbers
+    (sides_below (setting.holds condition) (entry_below (least setting one behind this) xs here few)
+    (entry_below (least setting one behind other) ys there few)) reaches
+    (reaches_join (least setting one behind this) (least setting one behind other) (behind_first numbers) (nodes this)
+    (least_count setting one behind this) here there)
+least_reached setting one two behind more NeverTree numbers below few reaches = reaches
 
 -- ---- entrances
 
-voice_admitted : (holds : ℕ → Bool) (voice : Option Tree) →
-    voice_asked holds voice (least_voice holds voice) ≡ least_voice holds voice
-voice_admitted holds None = refl
-voice_admitted holds (Some block) = least_asked holds nowhere 0 block
+voice_admitted : (setting : Setting) (voice : Option Tree) →
+    voice_asked setting voice (least_voice setting voice) ≡ least_voice setting voice
+voice_admitted setting None = refl
+voice_admitted setting (Some block) = least_asked setting nowhere 0 block
 
-all_admitted : (e : Entrance) → entrance_asked e (least_all e) ≡ least_all e
-all_admitted e =
-    let xs = least_of e.holds e.first in
-    let ys = least_voice e.holds e.voice in
-    let count = least_count e.holds nowhere 0 e.first in
-    let firsts = take_length xs ys (nodes e.first) count in
-    let rests = drop_length xs ys (nodes e.first) count in
-    ap (λ l. (entry l 0 + voice_most e.voice (drop (nodes e.first) (xs ++ ys)))
-    ∷ (asked e.holds nowhere 0 e.first l ++ voice_asked e.holds e.voice (drop (nodes e.first) (xs ++ ys)))) firsts
-    ∙ (ap (λ l. (entry xs 0 + voice_most e.voice l)
-    ∷ (asked e.holds nowhere 0 e.first xs ++ voice_asked e.holds e.voice l)) rests
-    ∙ ap (λ l. (entry xs 0 + voice_most e.voice ys) ∷ l)
-    (two_lists (least_asked e.holds nowhere 0 e.first) (voice_admitted e.holds e.voice)))
+all_admitted : (setting : Setting) (first : Tree) (voice : Option Tree) → call_asked setting first voice (least_all setting first voice) ≡ least_all setting first voice
+all_admitted setting first voice =
+    let xs = least_of setting first in
+    let ys = least_voice setting voice in
+    let count = least_count setting nowhere 0 first in
+    let firsts = take_length xs ys (nodes first) count in
+    let rests = drop_length xs ys (nodes first) count in
+    ap (λ l. (entry l 0 + voice_most voice (drop (nodes first) (xs ++ ys)))
+    ∷ (asked setting nowhere 0 first l ++ voice_asked setting voice (drop (nodes first) (xs ++ ys)))) firsts
+    ∙ (ap (λ l. (entry xs 0 + voice_most voice l)
+    ∷ (asked setting nowhere 0 first xs ++ voice_asked setting voice l)) rests
+    ∙ ap (λ l. (entry xs 0 + voice_most voice ys) ∷ l)
+    (two_lists (least_asked setting nowhere 0 first) (voice_admitted setting voice)))
 
-voice_reached : (holds : ℕ → Bool) (voice : Option Tree) (numbers : List ℕ) →
-    Reaches (voice_asked holds voice numbers) numbers → Reaches (least_voice holds voice) numbers
-voice_reached holds None numbers reaches = reaches
-voice_reached holds (Some block) numbers reaches =
-    least_reached holds nowhere nowhere 0 0 block numbers (itself_below nowhere) (omega arith) reaches
+voice_reached : (setting : Setting) (voice : Option Tree) (numbers : List ℕ) →
+    Reaches (voice_asked setting voice numbers) numbers → Reaches (least_voice setting voice) numbers
+voice_reached setting None numbers reaches = reaches
+voice_reached setting (Some block) numbers reaches =
+    least_reached setting nowhere nowhere 0 0 block numbers (itself_below nowhere) (omega arith) reaches
 
-voice_below : (holds : ℕ → Bool) (voice : Option Tree) (numbers : List ℕ) →
-    Reaches (least_voice holds voice) numbers → voice_most voice (least_voice holds voice) ≤ voice_most voice numbers
-voice_below holds None numbers reaches = omega arith
-voice_below holds (Some block) numbers reaches =
-    let less = entry_below {d = 0} {e = 0} (least_of holds block) numbers reaches (omega arith) in omega (arith, less)
+voice_below : (setting : Setting) (voice : Option Tree) (numbers : List ℕ) →
+    Reaches (least_voice setting voice) numbers → voice_most voice (least_voice setting voice) ≤ voice_most voice numbers
+voice_below setting None numbers reaches = omega arith
+voice_below setting (Some block) numbers reaches =
+    let less = entry_below {d = 0} {e = 0} (least_of setting block) numbers reaches (omega arith) in omega (arith, less)
 
-all_reached : (e : Entrance) (numbers : List ℕ) → Reaches (entrance_asked e numbers) numbers →
-    Reaches (least_all e) numbers
-all_reached e numbers reaches =
-    let xs = first_numbers e numbers in
-    let ys = voice_numbers e numbers in
-    let asks = entry xs 0 + voice_most e.voice ys in
-    let first = asked e.holds nowhere 0 e.first xs in
-    let second = voice_asked e.holds e.voice ys in
+all_reached : (setting : Setting) (first : Tree) (voice : Option Tree) (numbers : List ℕ) → Reaches (call_asked setting first voice numbers) numbers →
+    Reaches (least_all setting first voice) numbers
+all_reached setting first voice numbers reaches =
+    let xs = first_numbers first numbers in
+    let ys = voice_numbers first numbers in
+    let asks = entry xs 0 + voice_most voice ys in
+    let asks_first = asked setting nowhere 0 first xs in
+    let asks_second = voice_asked setting voice ys in
     let both =
-    subst (λ n. Reaches first (take n (behind_first numbers)) × Reaches second (drop n (behind_first numbers)))
-    (asked_count e.holds nowhere 0 e.first xs)
-    (reaches_both first second (behind_first numbers) (inner asks (first ++ second) numbers reaches)) in
+    subst (λ n. Reaches asks_first (take n (behind_first numbers)) × Reaches asks_second (drop n (behind_first numbers)))
+    (asked_count setting nowhere 0 first xs)
+    (reaches_both asks_first asks_second (behind_first numbers) (inner asks (asks_first ++ asks_second) numbers reaches)) in
     let here =
-    least_reached e.holds nowhere nowhere 0 0 e.first xs (itself_below nowhere) (omega arith) both.0 in
-    let there = voice_reached e.holds e.voice ys both.1 in
-    let one = entry_below {d = 0} {e = 0} (least_of e.holds e.first) xs here (omega arith) in
-    let two = voice_below e.holds e.voice ys there in
-    lower_first asks (entry (least_of e.holds e.first) 0 + voice_most e.voice (least_voice e.holds e.voice))
-    (first ++ second) (least_of e.holds e.first ++ least_voice e.holds e.voice) numbers (omega (arith, one, two)) reaches
-    (reaches_join (least_of e.holds e.first) (least_voice e.holds e.voice) (behind_first numbers) (nodes e.first)
-    (least_count e.holds nowhere 0 e.first) here there)
+    least_reached setting nowhere nowhere 0 0 first xs (itself_below nowhere) (omega arith) both.0 in
+    let there = voice_reached setting voice ys both.1 in
+    let one = entry_below {d = 0} {e = 0} (least_of setting first) xs here (omega arith) in
+    let two = voice_below setting voice ys there in
+    lower_first asks (entry (least_of setting first) 0 + voice_most voice (least_voice setting voice))
+    (asks_first ++ asks_second) (least_of setting first ++ least_voice setting voice) numbers (omega (arith, one, two)) reaches
+    (reaches_join (least_of setting first) (least_voice setting voice) (behind_first numbers) (nodes first)
+    (least_count setting nowhere 0 first) here there)
 
 pub least_are_least : LeastAreLeast
-least_are_least e = record {
-  admitted = subst (λ l. Reaches l (least_all e)) (sym (all_admitted e)) (reaches_itself (least_all e));
-  least = all_reached e;
+least_are_least setting first voice = record {
+  admitted = subst (λ l. Reaches l (least_all setting first voice)) (sym (all_admitted setting first voice)) (reaches_itself (least_all setting first voice));
+  least = all_reached setting first voice;
 }

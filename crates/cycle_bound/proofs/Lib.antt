@@ -7,3 +7,13 @@ pub mod EntranceBounds
 pub mod Leasts
 -- Worked by hand.
 pub mod WorkedRules
+-- Numbers that are pushed.
+pub mod Pushing
+-- Where the least numbers have room, they are written.
+pub mod Written
+-- Where numbers are too small.
+pub mod Shorts
+-- How great they can be.
+pub mod Spans
+-- Turns of open loops.
+pub mod Turns

@@ -1,19 +1,20 @@
 -- Numbers of small blocks are as they are worked by hand.
-use Rattle.std.proofs.Common.{◌≡◌, ℕ, ◌≤◌, Bool, List, [], ◌∷◌, lit≤, refl, sym, subst, arith}
+use Rattle.std.proofs.Common.{◌≡◌, ℕ, zero, suc, ◌<◌, ◌≤◌, get_or, List, [], ◌∷◌, lit≤, refl, sym, subst, arith}
 use Rattle.scopes.specs.Trees.{Tree, tree_of}
 use Rattle.scope_lines.specs.declared.worked.TheConstants.{CAPPED, LOUD, SOUGHT, SUMMED}
 use Rattle.cycle_bound.specs.declared.worked.TheConstants.{KEPT, ONE_OF_TWO, IN_LOOPS, WRITES, LEFT_FAR, SAME_NAME}
-use Rattle.cycle_bound.specs.Rules.{nowhere, asked, Reaches}
-use Rattle.cycle_bound.specs.WorkedRules.{none, only, AreLeast, LoopsAreCounted, WaysOutAreCounted, BranchesAreCounted}
+use Rattle.cycle_bound.specs.Rules.{nowhere, asked, Reaches, Setting}
+use Rattle.cycle_bound.specs.WorkedRules.{FaultsAreWorked, none, only, opened, OpenLoopsAreCounted, AreLeast, LoopsAreCounted, WaysOutAreCounted, BranchesAreCounted}
 use Rattle.cycle_bound.specs.WorkedRules.{FarWaysAreCounted, WritesAreCounted, EntrancesAreCounted, ConditionsAreCounted, NumbersAreAsWorked}
+use Rattle.scopes.specs.declared.worked.TheConstants.{HALVED_OPEN}
 
 reaches_itself : (numbers : List ℕ) → Reaches numbers numbers
 reaches_itself [] = tt
 reaches_itself (number ∷ numbers) = (omega arith, reaches_itself numbers)
 
-least : (holds : ℕ → Bool) (tree : Tree) (numbers : List ℕ) → asked holds nowhere 0 tree numbers ≡ numbers →
-    AreLeast holds tree numbers
-least holds tree numbers e = (e, subst (λ asked. Reaches asked numbers) (sym e) (reaches_itself numbers))
+least : (setting : Setting) (tree : Tree) (numbers : List ℕ) → asked setting nowhere 0 tree numbers ≡ numbers →
+    AreLeast setting tree numbers
+least setting tree numbers e = (e, subst (λ asked. Reaches asked numbers) (sym e) (reaches_itself numbers))
 
 loops : LoopsAreCounted
 loops = record {
@@ -28,6 +29,16 @@ loops = record {
   one_less = λ h. h.1.1.1.1.1.1.1;
   one_more = λ h. h.1.1.1.1.1.1.1.1;
   no_number = λ h. h;
+}
+
+open_loops : OpenLoopsAreCounted
+open_loops = record {
+  none = least (opened 0) (tree_of HALVED_OPEN.now) _ refl;
+  two = least (opened 2) (tree_of HALVED_OPEN.now) _ refl;
+  most = least (opened 300) (tree_of HALVED_OPEN.now) _ refl;
+  more = (lit≤ tt, (lit≤ tt, (lit≤ tt, (lit≤ tt, tt))));
+  once = λ h. (let e : 16 ≤ 8 = h.0 in omega arith);
+  fewer = λ h. (let e : 24 ≤ 16 = h.0 in omega arith);
 }
 
 ways_out : WaysOutAreCounted
@@ -78,5 +89,30 @@ entrances = record {
   calling = refl;
 }
 
+faults : FaultsAreWorked
+faults = record {
+  least = ((lit≤ tt, (lit≤ tt, tt)), refl);
+  raised = ((lit≤ tt, (lit≤ tt, tt)), refl);
+  lowered = (
+    refl,
+    record { there = lit≤ tt; short = lit≤ tt; before = λ other less. absurd (omega (arith, less)) },
+  );
+  second = (refl, record { there = lit≤ tt; short = lit≤ tt; before = first });
+  missing = (λ e. omega (arith, e), refl);
+  empty = (λ e. omega (arith, e), refl);
+  more = (λ e. omega (arith, e), refl);
+  not_its = λ told. (let e : 4 ≡ 9 = told.1 in omega (arith, e));
+  not_admitted = λ told. (let e : 4 ≤ 3 = told.0.0 in omega (arith, e));
+  not_first = λ told. (let e : 3 ≤ 2 = told.1.before 0 (omega arith) in omega (arith, e));
+  not_small = λ told. (let e : 4 < 4 = told.1.short in omega (arith, e));
+  not_bad = λ told. told.0 refl;
+  shape_first = λ told. (let e : 1 ≡ 2 = told.0 in omega (arith, e));
+  far_more = λ told. (let e : 4 ≡ 2 = told.1 in omega (arith, e));
+}
+  where
+    first : (other : ℕ) → other < 1 → get_or (3 ∷ 4 ∷ []) other 0 ≤ get_or (4 ∷ 3 ∷ []) other 0
+    first zero less = lit≤ tt
+    first (suc other) less = absurd (omega (arith, less))
+
 pub numbers_are_as_worked : NumbersAreAsWorked
-numbers_are_as_worked = record { far = far; writes = writes; entrances = entrances; loops = loops; ways_out = ways_out; branches = branches; conditions = conditions }
+numbers_are_as_worked = record { faults = faults; far = far; writes = writes; entrances = entrances; loops = loops; open_loops = open_loops; ways_out = ways_out; branches = branches; conditions = conditions }

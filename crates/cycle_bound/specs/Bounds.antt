@@ -6,7 +6,11 @@ use Rattle.scopes.specs.Trees.{Tree}
 use Rattle.scopes.specs.Meaning.{Outcome, Done, Left, Again, Stuck, each_one, ran}
 use Rattle.scope_lines.specs.Lines.{Around}
 use Rattle.scope_lines.specs.Cycles.{cycles}
-use Rattle.cycle_bound.specs.Rules.{Ends, entry, asked, Reaches, Admits, bound_by}
+use Rattle.cycle_bound.specs.Rules.{Ends, entry, asked, Reaches, Admits, bound_by, Setting}
+
+-- what a layout says of it
+abbrev pub setting_of : Layout → Setting
+setting_of layout = record { holds = layout.holds; open_turns = layout.open_turns }
 
 -- the number where an outcome comes to
 abbrev pub number_at : Ends → ℕ → Outcome → ℕ
@@ -19,7 +23,7 @@ number_at ends behind Stuck = 0
 abbrev pub TreesKeepBounds : Type 0
 TreesKeepBounds =
     (layout : Layout) (around : Around) (place : ℕ) (ends : Ends) (behind : ℕ) (tree : Tree) (numbers : List ℕ)
-    (desk : Desk) → Reaches (asked layout.holds ends behind tree numbers) numbers →
+    (desk : Desk) → Reaches (asked (setting_of layout) ends behind tree numbers) numbers →
     cycles layout around place tree desk + number_at ends behind (ran each_one layout tree desk).outcome
     ≤ entry numbers behind
 
@@ -27,4 +31,4 @@ TreesKeepBounds =
 abbrev pub BlocksKeepBounds : Type 0
 BlocksKeepBounds =
     (layout : Layout) (around : Around) (place : ℕ) (tree : Tree) (numbers : List ℕ) (desk : Desk) →
-    Admits layout.holds tree numbers → cycles layout around place tree desk ≤ bound_by numbers
+    Admits (setting_of layout) tree numbers → cycles layout around place tree desk ≤ bound_by numbers

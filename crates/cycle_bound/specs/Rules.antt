@@ -13,6 +13,7 @@ use Rattle.scopes.specs.declared.line.Operand.{Operand}
 use Rattle.scopes.specs.Trees.{Tree, DoTree, WithTree, NoneTree, ThenTree, ScopeTree, LeaveTree, LeaveIfTree, LoopTree}
 use Rattle.scopes.specs.Trees.{AgainTree, AgainIfTree, WhenTree, ChooseTree, NeverTree}
 use Rattle.scope_lines.specs.Instructions.{mode_of, alone_mode}
+use Rattle.scopes.specs.Meaning.{turns_in}
 
 -- ---- what a line takes at most
 
@@ -33,6 +34,13 @@ passed_most = read_cycles Relative
 
 abbrev pub taken_most : ℕ
 taken_most = read_cycles Relative + 2
+
+-- ---- what the numbers rest on
+
+-- which conditions hold, and how many turns an open loop has
+pub record Setting : Type 0 where
+  pub holds : ℕ → Bool
+  pub open_turns : ℕ
 
 -- ---- what follows
 
@@ -86,32 +94,32 @@ nodes tree = 1
 -- What each line's number must reach at least, by the numbers of the lines behind it. A condition's is that of what is
 -- kept, and the lines that aren't kept are asked like all others. A loop's is that of all its turns, and of where it comes
 -- out.
-abbrev pub asked : (ℕ → Bool) → Ends → ℕ → Tree → List ℕ → List ℕ
-asked holds ends behind (DoTree mnemonic) numbers = (alone_most mnemonic + behind) ∷ []
-asked holds ends behind (WithTree mnemonic operand) numbers = (with_most mnemonic operand + behind) ∷ []
-asked holds ends behind NoneTree numbers = []
-asked holds ends behind (ThenTree first rest) numbers =
-    asked holds ends (entry (drop (nodes first) numbers) behind) first (take (nodes first) numbers)
-    ++ asked holds ends behind rest (drop (nodes first) numbers)
-asked holds ends behind (ScopeTree name body) numbers =
-    entry (behind_first numbers) behind ∷ asked holds (in_scope name behind ends) behind body (behind_first numbers)
-asked holds ends behind (LeaveTree name) numbers = (jump_most + ends name) ∷ []
-asked holds ends behind (LeaveIfTree name test) numbers =
+abbrev pub asked : Setting → Ends → ℕ → Tree → List ℕ → List ℕ
+asked setting ends behind (DoTree mnemonic) numbers = (alone_most mnemonic + behind) ∷ []
+asked setting ends behind (WithTree mnemonic operand) numbers = (with_most mnemonic operand + behind) ∷ []
+asked setting ends behind NoneTree numbers = []
+asked setting ends behind (ThenTree first rest) numbers =
+    asked setting ends (entry (drop (nodes first) numbers) behind) first (take (nodes first) numbers)
+    ++ asked setting ends behind rest (drop (nodes first) numbers)
+asked setting ends behind (ScopeTree name body) numbers =
+    entry (behind_first numbers) behind ∷ asked setting (in_scope name behind ends) behind body (behind_first numbers)
+asked setting ends behind (LeaveTree name) numbers = (jump_most + ends name) ∷ []
+asked setting ends behind (LeaveIfTree name test) numbers =
     max (passed_most + behind) (taken_most + ends name) ∷ []
-asked holds ends behind (LoopTree count body) numbers =
-    (count * entry (behind_first numbers) 0 + max behind (furthest holds ends body))
-    ∷ asked holds nowhere 0 body (behind_first numbers)
-asked holds ends behind AgainTree numbers = jump_most ∷ []
-asked holds ends behind (AgainIfTree test) numbers = max (passed_most + behind) taken_most ∷ []
-asked holds ends behind (WhenTree condition body) numbers =
-    (if holds condition then entry (behind_first numbers) behind else behind)
-    ∷ asked holds ends behind body (behind_first numbers)
-asked holds ends behind (ChooseTree condition this other) numbers =
-    (if holds condition then entry (take (nodes this) (behind_first numbers)) behind
+asked setting ends behind (LoopTree count body) numbers =
+    (turns_in setting.open_turns count * entry (behind_first numbers) 0 + max behind (furthest setting.holds ends body))
+    ∷ asked setting nowhere 0 body (behind_first numbers)
+asked setting ends behind AgainTree numbers = jump_most ∷ []
+asked setting ends behind (AgainIfTree test) numbers = max (passed_most + behind) taken_most ∷ []
+asked setting ends behind (WhenTree condition body) numbers =
+    (if setting.holds condition then entry (behind_first numbers) behind else behind)
+    ∷ asked setting ends behind body (behind_first numbers)
+asked setting ends behind (ChooseTree condition this other) numbers =
+    (if setting.holds condition then entry (take (nodes this) (behind_first numbers)) behind
     else entry (drop (nodes this) (behind_first numbers)) behind)
-    ∷ (asked holds ends behind this (take (nodes this) (behind_first numbers))
-    ++ asked holds ends behind other (drop (nodes this) (behind_first numbers)))
-asked holds ends behind NeverTree numbers = 0 ∷ []
+    ∷ (asked setting ends behind this (take (nodes this) (behind_first numbers))
+    ++ asked setting ends behind other (drop (nodes this) (behind_first numbers)))
+asked setting ends behind NeverTree numbers = 0 ∷ []
 
 -- numbers reach others: there are as many, and each is as great or greater
 abbrev pub Reaches : List ℕ → List ℕ → Type 0
@@ -120,8 +128,8 @@ Reaches (least ∷ more) (number ∷ numbers) = (least ≤ number) × Reaches mo
 Reaches least numbers = ⊥
 
 -- the numbers of a block's lines are admitted where each reaches what it must
-abbrev pub Admits : (ℕ → Bool) → Tree → List ℕ → Type 0
-Admits holds tree numbers = Reaches (asked holds nowhere 0 tree numbers) numbers
+abbrev pub Admits : Setting → Tree → List ℕ → Type 0
+Admits setting tree numbers = Reaches (asked setting nowhere 0 tree numbers) numbers
 
 -- what they say of the block
 abbrev pub bound_by : List ℕ → ℕ

@@ -1,24 +1,33 @@
 -- Numbers of small blocks, worked by hand from the cycles of the MOS 6502 programming manual, and numbers that aren't
 -- admitted.
-use Rattle.std.specs.Prelude.{◌≡◌, ℕ, Bool, false, nat_eq, List, [], ◌∷◌}
+use Rattle.std.specs.Prelude.{◌≡◌, ℕ, false, nat_eq, List, [], ◌∷◌, Result, Ok, Err}
+use Rattle.cycle_bound.specs.declared.checks.CertFault.{CertFault}
+use Rattle.cycle_bound.specs.declared.checks.CertKind.{CertKind}
+use Rattle.cycle_bound.specs.declared.checks.CertKind.TheVariants.{BadShape, TooSmall}
+use Rattle.cycle_bound.specs.Faults.{IsChecked}
 use Rattle.scopes.specs.Trees.{Tree, tree_of}
 use Rattle.scope_lines.specs.declared.worked.TheConstants.{CAPPED, LOUD, SOUGHT, SUMMED}
 use Rattle.cycle_bound.specs.declared.worked.TheConstants.{KEPT, ONE_OF_TWO, IN_LOOPS, WRITES, LEFT_FAR, SAME_NAME}
 use Rattle.scope_calls.specs.WorkedEntrances.{volume_entrance, voices_entrance}
-use Rattle.cycle_bound.specs.Rules.{nowhere, asked, Admits}
-use Rattle.cycle_bound.specs.EntranceRules.{calling_most, around_cycles, AdmitsEntrance}
+use Rattle.cycle_bound.specs.Rules.{nowhere, asked, Admits, Setting}
+use Rattle.cycle_bound.specs.EntranceRules.{calling_most, around_cycles, AdmitsEntrance, setting_at}
 use Rattle.cycle_bound.specs.Least.{least_all}
+use Rattle.scope_calls.specs.Entrances.{Entrance}
+use Rattle.scopes.specs.declared.worked.TheConstants.{HALVED_OPEN}
 
--- no condition holds; and one alone
-abbrev pub none : ℕ → Bool
-none condition = false
+-- no condition holds, and an open loop has no turn; one condition holds alone; and an open loop has so many turns
+abbrev pub none : Setting
+none = record { holds = λ condition. false; open_turns = 0 }
 
-abbrev pub only : ℕ → ℕ → Bool
-only one condition = nat_eq condition one
+abbrev pub only : ℕ → Setting
+only one = record none { holds = λ condition. nat_eq condition one }
+
+abbrev pub opened : ℕ → Setting
+opened turns = record none { open_turns = turns }
 
 -- each number is as great as its rule asks, and no greater
-abbrev pub AreLeast : (ℕ → Bool) → Tree → List ℕ → Type 0
-AreLeast holds tree numbers = (asked holds nowhere 0 tree numbers ≡ numbers) × Admits holds tree numbers
+abbrev pub AreLeast : Setting → Tree → List ℕ → Type 0
+AreLeast setting tree numbers = (asked setting nowhere 0 tree numbers ≡ numbers) × Admits setting tree numbers
 
 -- ---- a loop
 
@@ -57,6 +66,16 @@ pub record FarWaysAreCounted : Type 0 where
   pub left_out : AreLeast none (tree_of LEFT_FAR.now) (14 ∷ 14 ∷ 14 ∷ 5 ∷ 3 ∷ 5 ∷ 3 ∷ 0 ∷ 6 ∷ 4 ∷ 2 ∷ [])
   pub same_name : AreLeast none (tree_of SAME_NAME.now) (14 ∷ 14 ∷ 7 ∷ 7 ∷ 3 ∷ 0 ∷ 2 ∷ [])
 
+-- An open loop counts as often as the setting says, and at most 255 times; where it has no turn nothing but its way out is
+-- counted. A turn takes at most 8: LSR 2, DEY 2, and a branch that is taken 4.
+pub record OpenLoopsAreCounted : Type 0 where
+  pub none : AreLeast (opened 0) (tree_of HALVED_OPEN.now) (0 ∷ 8 ∷ 6 ∷ 4 ∷ [])
+  pub two : AreLeast (opened 2) (tree_of HALVED_OPEN.now) (16 ∷ 8 ∷ 6 ∷ 4 ∷ [])
+  pub most : AreLeast (opened 300) (tree_of HALVED_OPEN.now) (2040 ∷ 8 ∷ 6 ∷ 4 ∷ [])
+  pub more : Admits (opened 2) (tree_of HALVED_OPEN.now) (2040 ∷ 8 ∷ 6 ∷ 4 ∷ [])
+  pub once : ¬ Admits (opened 2) (tree_of HALVED_OPEN.now) (8 ∷ 8 ∷ 6 ∷ 4 ∷ [])
+  pub fewer : ¬ Admits (opened 3) (tree_of HALVED_OPEN.now) (16 ∷ 8 ∷ 6 ∷ 4 ∷ [])
+
 -- what is written by an index takes no more in another page; and nothing is behind what is never come to
 pub record WritesAreCounted : Type 0 where
   pub least : AreLeast none (tree_of WRITES.now) (12 ∷ 7 ∷ 0 ∷ 2 ∷ [])
@@ -74,8 +93,8 @@ pub record BranchesAreCounted : Type 0 where
 
 -- ---- conditions
 
-abbrev pub summed : (ℕ → Bool) → List ℕ → Type 0
-summed holds numbers = Admits holds (tree_of SUMMED.now) numbers
+abbrev pub summed : Setting → List ℕ → Type 0
+summed setting numbers = Admits setting (tree_of SUMMED.now) numbers
 
 -- what a condition keeps counts; what it doesn't keep is asked for its own, and counts for none of the others
 pub record ConditionsAreCounted : Type 0 where
@@ -93,15 +112,18 @@ pub record ConditionsAreCounted : Type 0 where
 -- ---- entrances
 
 -- STA of the volume, 4 cycles; and LDA and STA, 6, with the voices' TXA and STA, 7, three times, and 30 that call them
+abbrev pub least_at : Entrance → List ℕ
+least_at e = least_all (setting_at 0 e) e.first e.voice
+
 abbrev pub volume_admits : List ℕ → Type 0
-volume_admits numbers = AdmitsEntrance volume_entrance.entrance numbers
+volume_admits numbers = AdmitsEntrance 0 volume_entrance.entrance numbers
 
 abbrev pub voices_admit : List ℕ → Type 0
-voices_admit numbers = AdmitsEntrance voices_entrance.entrance numbers
+voices_admit numbers = AdmitsEntrance 0 voices_entrance.entrance numbers
 
 pub record EntrancesAreCounted : Type 0 where
-  pub volume : least_all volume_entrance.entrance ≡ 4 ∷ 4 ∷ []
-  pub voices : least_all voices_entrance.entrance ≡ 57 ∷ 6 ∷ 4 ∷ 7 ∷ 5 ∷ []
+  pub volume : least_at volume_entrance.entrance ≡ 4 ∷ 4 ∷ []
+  pub voices : least_at voices_entrance.entrance ≡ 57 ∷ 6 ∷ 4 ∷ 7 ∷ 5 ∷ []
   pub volume_least : volume_admits (4 ∷ 4 ∷ [])
   pub voices_least : voices_admit (57 ∷ 6 ∷ 4 ∷ 7 ∷ 5 ∷ [])
   pub lowered : ¬ volume_admits (3 ∷ 4 ∷ [])
@@ -112,11 +134,40 @@ pub record EntrancesAreCounted : Type 0 where
   pub around : around_cycles ≡ 11
   pub calling : calling_most ≡ 30
 
+-- ---- faults
+
+-- of the entrance of two lines, whose least numbers are 4 and 4
+abbrev pub volume_told : List ℕ → Result ℕ CertFault → Type 0
+volume_told numbers told = IsChecked (setting_at 0 volume_entrance.entrance) volume_entrance.entrance.first
+    volume_entrance.entrance.voice numbers told
+
+abbrev pub fault : CertKind → ℕ → Result ℕ CertFault
+fault kind place = Err (record { place = place; kind = kind })
+
+-- the first fault is told, and one in the number of lines before one in a number
+pub record FaultsAreWorked : Type 0 where
+  pub least : volume_told (4 ∷ 4 ∷ []) (Ok 4)
+  pub raised : volume_told (9 ∷ 4 ∷ []) (Ok 9)
+  pub lowered : volume_told (3 ∷ 4 ∷ []) (fault TooSmall 0)
+  pub second : volume_told (4 ∷ 3 ∷ []) (fault TooSmall 1)
+  pub missing : volume_told (3 ∷ []) (fault BadShape 1)
+  pub empty : volume_told [] (fault BadShape 0)
+  pub more : volume_told (3 ∷ 4 ∷ 0 ∷ []) (fault BadShape 2)
+  pub not_its : ¬ volume_told (9 ∷ 4 ∷ []) (Ok 4)
+  pub not_admitted : ¬ volume_told (3 ∷ 4 ∷ []) (Ok 3)
+  pub not_first : ¬ volume_told (2 ∷ 3 ∷ []) (fault TooSmall 1)
+  pub not_small : ¬ volume_told (4 ∷ 4 ∷ []) (fault TooSmall 0)
+  pub not_bad : ¬ volume_told (4 ∷ 4 ∷ []) (fault BadShape 2)
+  pub shape_first : ¬ volume_told (3 ∷ []) (fault TooSmall 0)
+  pub far_more : ¬ volume_told (4 ∷ 4 ∷ 0 ∷ 0 ∷ []) (fault BadShape 4)
+
 pub record NumbersAreAsWorked : Type 0 where
+  pub faults : FaultsAreWorked
   pub far : FarWaysAreCounted
   pub writes : WritesAreCounted
   pub entrances : EntrancesAreCounted
   pub loops : LoopsAreCounted
+  pub open_loops : OpenLoopsAreCounted
   pub ways_out : WaysOutAreCounted
   pub branches : BranchesAreCounted
   pub conditions : ConditionsAreCounted

@@ -3,6 +3,7 @@
 ghost use Rattle.cycle_bound.specs.Bounds.{BlocksKeepBounds, TreesKeepBounds};
 ghost use Rattle.cycle_bound.specs.EntranceRules.{EntrancesKeepBounds};
 ghost use Rattle.cycle_bound.specs.Least.{LeastAreLeast};
+ghost use Rattle.cycle_bound.specs.Spans.{LeastFit};
 ghost use Rattle.cycle_bound.specs.WorkedRules.{NumbersAreAsWorked};
 
 /// Numbers that the rules admit bound the clock cycles of a block's lines, wherever they stand and from any desk.
@@ -20,6 +21,11 @@ pub fn entrances_keep_bounds()
 /// Each entrance has least numbers: they are admitted, and all others that are admitted reach them.
 pub fn least_are_least()
     ensures { LeastAreLeast }
+{}
+
+/// The least numbers have room in 64 bits where 8 cycles a line have, and as many more for each turn of a loop.
+pub fn least_numbers_fit()
+    ensures { LeastFit }
 {}
 
 /// Numbers of small blocks, worked by hand: loops, ways out of them, branches and conditions, and numbers that aren't

@@ -6,5 +6,14 @@
 //! It stands on `scope_lines`. See `docs/scopes.md`.
 #![tactic(auto)]
 
+mod checks;
 pub mod claims;
+mod least;
+mod lines;
 mod worked;
+
+pub use base::NoMemory;
+pub use checks::{CertFault, CertKind, call_count, check};
+pub use least::{Numbers, make};
+pub use lines::Kept;
+pub use scope_lines::{Conditions, Line};

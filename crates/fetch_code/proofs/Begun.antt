@@ -31,6 +31,8 @@ use Rattle.walk_code.proofs.Laws.{Arrives, arrives, begun, Begun}
 use Rattle.walk_code.proofs.Laws.{OfByte, repeat_fine}
 use Rattle.walk_code.proofs.Laws.{WalkGround, Walking, Fine, IsThere, begin_tree, behind}
 use Rattle.walk_code.proofs.Laws.{loop_leads}
+use Rattle.scopes.specs.declared.line.TheConstants.{OPEN}
+use Rattle.scopes.specs.Meaning.{turns_in}
 
 -- ---- where the walk stands behind a play
 
@@ -122,7 +124,7 @@ order_leads r look packed order s place looks d b ways k at ground walking halve
     (IsThere r s order (played order n) way.after d b)
     (in_scope BEGINS (done_as (AtBegun r look packed order s d b) ways)) there
     (loop_leads r s order place looks ground (played order n) way.after d b
-    (in_scope BEGINS (done_as (AtBegun r look packed order s d b) ways)) 255 there
+    (in_scope BEGINS (done_as (AtBegun r look packed order s d b) ways)) (turns_in r.layout.open_turns OPEN) there
     (record {
       p = at.place;
       t = at.transpose;

@@ -19,7 +19,7 @@ use Rattle.song_facts.specs.Facts.{IsGateNote, IsTone, IsLegato, KeepsEnvelope}
 use Rattle.packed_form.specs.WalkLaws.{WalkEnds}
 use Rattle.scopes.specs.Desk.{Desk, Layout}
 use Rattle.scopes.specs.Trees.{Tree, NoneTree, ThenTree, ScopeTree}
-use Rattle.scopes.specs.Meaning.{Outcome, Done, Left, Ran, each_one, ran}
+use Rattle.scopes.specs.Meaning.{Outcome, Done, Left, Ran, each_one, ran, turns_in}
 use Rattle.player_memory.specs.declared.conditions.TheConstants.{TRANSPOSES, REPEATS, SKIP_PULSE, SKIP_FIRST}
 use Rattle.player_memory.specs.declared.conditions.TheConstants.{GATE_NOTE, ROW_TONE, LEGATO, NO_HARD_RESTART}
 use Rattle.player_memory.specs.declared.conditions.TheConstants.{FIRST_HOLDS, OWN_TIMER}
@@ -32,6 +32,7 @@ use Rattle.player_memory.specs.Playing.{AllSlidesStay}
 use Rattle.player_memory.specs.Fetching.{IsOrderlist, IsPattern, IsInSong}
 use Rattle.player_text.specs.declared.joints.TheConstants.{SOUNDS, PULSED}
 use Rattle.player_text.specs.Steps.{fetch_tree as step_tree}
+use Rattle.scopes.specs.declared.line.TheConstants.{OPEN}
 
 -- the block, whose end is where the pulse step goes on
 abbrev pub fetch_tree : Tree
@@ -46,14 +47,14 @@ pub record IsKept (layout : Layout) (byte : ℕ) : Type 0 where
   pub repeat : layout.holds REPEATS ≡ false → (byte < 0xD0) ⊎ (0xE0 ≤ byte)
 
 -- An orderlist that goes on for ever stands in memory, with no more entries than it may have. A walk from any of its
--- places comes to a pattern's number within 255 looks.
+-- places comes to a pattern's number within the turns of an open loop.
 pub record HasOrderlist (layout : Layout) (rows : ℕ) (at : ℕ → ℕ) (label : ℕ) (order : Order) : Type 0 where
   pub address : layout.address label < MEMORY_SIZE
   pub stands : IsOrderlist layout rows at label order
   pub endless : IsEndless order
   pub few : length order.entries ≤ MOST_ENTRIES
   pub each : All (IsKept layout) order.entries
-  pub walks : WalkEnds 255 order
+  pub walks : WalkEnds (turns_in layout.open_turns OPEN) order
 
 -- the row that comes next
 abbrev pub next_row : LookUps → Order → Voice → Row

@@ -41,6 +41,7 @@ site_with holds = record {
   address = address_of;
   pointer = 0xFB;
   holds = holds;
+  open_turns = 255;
   may_read = λ place. true;
   may_write = λ place. true;
 }

@@ -58,6 +58,7 @@ flat = record {
   address = λ label. label;
   pointer = 0xFC;
   holds = λ condition. true;
+  open_turns = 255;
   may_read = λ place. true;
   may_write = λ place. true;
 }

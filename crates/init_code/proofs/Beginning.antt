@@ -20,7 +20,7 @@ use Rattle.player_memory.specs.Fetching.{AreHalves}
 use Rattle.player_text.specs.declared.texts.Start.{Start}
 use Rattle.player_text.specs.Texts.{init_tree}
 use Rattle.init_code.specs.InitBlock.{IsOutOf, MayClear, MaySetTimer, IsOrderByte, HasOrders, IsAtSubtune}
-use Rattle.init_code.proofs.Going.{Goes, goes_on, then_goes, step, loaded, no_more}
+use Rattle.init_code.proofs.Going.{Goes, goes_on, then_goes, step, loaded, no_more, loop_goes}
 use Rattle.init_code.proofs.Clearing.{IsCleared, Stores, clear_tree, cleared}
 use Rattle.init_code.proofs.Taking.{IsTaken, takes, IsTimed, times}
 use Rattle.init_code.proofs.Variables.{IsHere, IsEntry, put_where, where_kept, lda_number, ldx_number, sta_var}
@@ -67,8 +67,9 @@ module _ (layout : Layout) (rows count : ℕ) (at : ℕ → ℕ) (may : MayUse l
       let all : suc (count - 1) ≡ count = omega (arith, some) in
       subst (λ n. Goes layout (LoopTree 92 (clear_tree (Own FIRST_CLEARED))) Done
       (IsCleared (layout.address FIRST_CLEARED) n d) d) all
+      (loop_goes layout 92 (clear_tree (Own FIRST_CLEARED)) _ d (omega arith)
       (cleared layout (Own FIRST_CLEARED) (layout.address FIRST_CLEARED) count variables_store 92 (count - 1) d
-      (omega (arith, some, few)) (omega (arith, some)) (omega (arith, some, few)) x a)
+      (omega (arith, some, few)) (omega (arith, some)) (omega (arith, some, few)) x a))
 
   clears : (rest : Tree) (end : Outcome) (P : Desk → Type 0) (d : Desk) →
       ((m : Desk) → AreCleared layout count d m → Goes layout rest end P m) →
@@ -83,9 +84,9 @@ module _ (layout : Layout) (rows count : ℕ) (at : ℕ → ℕ) (may : MayUse l
       (goes_on layout _ Done _ _ _
       (λ after two. follows after (record { middle = middle; registers = one; variables = two }))
       (variables_clear (in_x (count - 1) middle) refl one.a))))
+      (loop_goes layout 25 (clear_tree (OwnRegister 0)) _ _ (omega arith)
       (cleared layout (OwnRegister 0) 0xD400 25 registers_store 25 24 (in_x 24 (loaded 0 d)) (omega arith) (omega arith)
-      (omega arith)
-      refl refl))))
+      (omega arith) refl refl)))))
 
 -- ---- where no variable stands
 

@@ -15,7 +15,7 @@ use Rattle.scopes.specs.Steps.{done_with}
 use Rattle.scopes.specs.Meaning.{Done}
 use Rattle.scopes.specs.Trees.{Tree, DoTree, WithTree, NoneTree, ThenTree, LoopTree, AgainIfTree}
 use Rattle.init_code.specs.InitBlock.{IsOutOf}
-use Rattle.init_code.proofs.Going.{Goes, goes_on, stored, step, step_alone, turn_more, turn_last, again, no_turn}
+use Rattle.init_code.proofs.Going.{GoesRound, round_on, stored, step, step_alone, turn_more, turn_last, again, no_turn}
 
 -- ---- places
 
@@ -81,7 +81,7 @@ more_is base n d after x a is = record {
 -- in so many turns or more
 pub cleared : (layout : Layout) (operand : Operand) (base count : ℕ) → Stores layout operand base count →
     (turns n : ℕ) (d : Desk) → n < turns → n < count → n < 128 → d.cpu.x ≡ n → d.cpu.a ≡ 0 →
-    Goes layout (LoopTree turns (clear_tree operand)) Done (IsCleared base (suc n) d) d
+    GoesRound layout turns (clear_tree operand) (IsCleared base (suc n) d) d
 cleared layout operand base count stores zero n d less few small x a = absurd (omega (arith, less))
 cleared layout operand base count stores (suc turns) zero d less few small x a =
     turn_last layout turns (clear_tree operand) _ d
@@ -93,7 +93,7 @@ cleared layout operand base count stores (suc turns) (suc n) d less few small x 
     (step layout Sta operand _ _ _ d (stored (base + d.cpu.x) d) (stores d (omega (arith, few, x)))
     (step_alone layout Dex _ _ _ _ (back (stored (base + d.cpu.x) d)) refl
     (again layout (Off Minus) _ _ _ (rw below refl)
-    (goes_on layout (LoopTree turns (clear_tree operand)) Done _ _ _ (λ m is. more_is base n d m x a is)
+    (round_on layout turns (clear_tree operand) _ _ _ (λ m is. more_is base n d m x a is)
     (cleared layout operand base count stores turns n (back (stored (base + d.cpu.x) d)) (omega (arith, less))
     (omega (arith, few)) (omega (arith, small)) next a)))))
   where

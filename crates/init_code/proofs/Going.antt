@@ -1,5 +1,5 @@
 -- Where code comes to from a desk: its end, and what holds of the desk there; instruction by instruction.
-use Rattle.std.proofs.Common.{◌≡◌, ℕ, suc, true, false, Some}
+use Rattle.std.proofs.Common.{◌≡◌, ℕ, suc, ◌<◌, true, false, Some, subst, sym}
 use Rattle.cpu6502.specs.declared.mnemonic.Mnemonic.{Mnemonic}
 use Rattle.cpu6502.specs.Registers.{with_a}
 use Rattle.code_runs.specs.Runs.{put}
@@ -7,9 +7,11 @@ use Rattle.scopes.specs.declared.line.Operand.{Operand}
 use Rattle.scopes.specs.declared.line.Test.{Test}
 use Rattle.scopes.specs.Desk.{Desk, Layout}
 use Rattle.scopes.specs.Steps.{done, done_with}
-use Rattle.scopes.specs.Meaning.{Outcome, Done, Again, each_one, ran, is_met}
+use Rattle.scopes.specs.Meaning.{Outcome, Done, Again, each_one, ran, is_met, turns}
 use Rattle.scopes.specs.Trees.{Tree, DoTree, WithTree, NoneTree, ThenTree, LoopTree, AgainIfTree, WhenTree}
 use Rattle.std.proofs.Common.{refl}
+use Rattle.scopes.specs.declared.line.TheConstants.{OPEN}
+use Rattle.scopes.proofs.Laws.{few_turns}
 
 -- the tree ends so, at a desk of which this holds
 pub record Goes (layout : Layout) (tree : Tree) (end : Outcome) (P : Desk → Type 0) (d : Desk) : Type 0 where
@@ -40,13 +42,32 @@ not_kept layout condition body P d out holds = record { ends = rw out refl; to =
 
 -- ---- loops
 
+-- so many turns
+pub record GoesRound (layout : Layout) (count : ℕ) (body : Tree) (P : Desk → Type 0) (d : Desk) : Type 0 where
+  pub ends : (turns count (ran each_one layout body) d).outcome ≡ Done
+  pub to : P (turns count (ran each_one layout body) d).desk
+
+pub round_on : (layout : Layout) (count : ℕ) (body : Tree) (P Q : Desk → Type 0) (d : Desk) →
+    ((m : Desk) → P m → Q m) → GoesRound layout count body P d → GoesRound layout count body Q d
+round_on layout count body P Q d follows goes = record { ends = goes.ends; to = follows _ goes.to }
+
+-- a loop that isn't open
+pub loop_goes : (layout : Layout) (count : ℕ) (body : Tree) (P : Desk → Type 0) (d : Desk) → count < OPEN →
+    GoesRound layout count body P d → Goes layout (LoopTree count body) Done P d
+loop_goes layout count body P d few goes =
+    let same = few_turns layout.open_turns count few in
+    record {
+      ends = subst (λ n. (turns n (ran each_one layout body) d).outcome ≡ Done) (sym same) goes.ends;
+      to = subst (λ n. P (turns n (ran each_one layout body) d).desk) (sym same) goes.to;
+    }
+
 pub turn_more : (layout : Layout) (more : ℕ) (body : Tree) (P : Desk → Type 0) (d : Desk) →
-    Goes layout body Again (Goes layout (LoopTree more body) Done P) d → Goes layout (LoopTree (suc more) body) Done P d
+    Goes layout body Again (GoesRound layout more body P) d → GoesRound layout (suc more) body P d
 turn_more layout more body P d goes = record { ends = rw goes.ends goes.to.ends; to = rw goes.ends goes.to.to }
 
 pub turn_last : (layout : Layout) (more : ℕ) (body : Tree) (P : Desk → Type 0) (d : Desk) →
-    Goes layout body Done P d → Goes layout (LoopTree (suc more) body) Done P d
-turn_last layout more body P d goes = record { ends = rw goes.ends refl; to = rw goes.ends goes.to }
+    Goes layout body Done P d → GoesRound layout (suc more) body P d
+turn_last layout more body P d goes = record { ends = rw goes.ends goes.ends; to = rw goes.ends goes.to }
 
 pub again : (layout : Layout) (test : Test) (rest : Tree) (P : Desk → Type 0) (d : Desk) → is_met test d ≡ true → P d →
     Goes layout (ThenTree (AgainIfTree test) rest) Again P d

@@ -15,7 +15,7 @@ use Rattle.player_memory.specs.declared.conditions.TheConstants.{INSTRUMENT_VIBR
 use Rattle.player_memory.specs.declared.labels.TheConstants.{ORDERS_LOW, ORDERS_HIGH, ORDER_LOW, ORDER_HIGH, TICK}
 use Rattle.player_memory.specs.declared.labels.TheConstants.{INSTRUMENT, VIB_DELAY, GATE, TEMPO, FUNK_TWO}
 use Rattle.player_memory.specs.Rooms.{IsRoom, MayUse}
-use Rattle.init_code.proofs.Going.{Goes, goes_on, then_goes, no_more, kept, not_kept, turn_more, turn_last, again, no_turn}
+use Rattle.init_code.proofs.Going.{Goes, goes_on, then_goes, no_more, kept, not_kept, loop_goes, turn_more, turn_last, again, no_turn}
 use Rattle.init_code.proofs.Variables.{IsHere, IsEntry, lda_number, dey, sta_var, sta_own, dec_own, lda_entry, with_same}
 use Rattle.init_code.proofs.Variables.{put_where, where_kept, next_tree, next_voice, IsVoiceAt}
 
@@ -170,7 +170,7 @@ module _ (layout : Layout) (rows : ℕ) (room : IsRoom layout rows) (may : MayUs
       (turned layout.holds 14 (address 2) tempo vars))) its_a 249 its_y m → P m) →
       Goes layout (LoopTree 3 (turn_tree tempo)) Done P d
   voices past vars a y its tempo address P d given last few here follows =
-      turn_more layout 2 (turn_tree tempo) P d
+      loop_goes layout 3 (turn_tree tempo) P d (omega arith) (turn_more layout 2 (turn_tree tempo) P d
       (turn past vars a 14 its (address 2) tempo Again _ d (are_own 2 (omega arith))
       (given_then past vars vars 14 (y + 2) its (address 2) last refl refl (given 2 (omega arith))) here
       (λ one carry_one third. again layout (On Carry) NoneTree _ one carry_one
@@ -186,4 +186,4 @@ module _ (layout : Layout) (rows : ℕ) (room : IsRoom layout rows) (may : MayUs
       (λ on. (let from = last on in let below = few on in let back = third.back on in let more = second.back on in
       omega (arith, from, below, back, more))) refl refl (given 0 (omega arith))) second.here
       (λ three carry_three first. no_turn layout (On Carry) P three carry_three
-      (follows three first.a_is first.y_is first.here)))))))))
+      (follows three first.a_is first.y_is first.here))))))))))

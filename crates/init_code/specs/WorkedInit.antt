@@ -151,6 +151,7 @@ pub record RunsAreWorked : Type 0 where
 abbrev pub at_timer : (ℕ → Bool) → Layout
 at_timer holds = record (site holds) {
   address = λ label. if nat_eq label ORDERS_LOW then 0xDC05 else (site holds).address label;
+  open_turns = 255;
   may_read = λ place. true;
 }
 

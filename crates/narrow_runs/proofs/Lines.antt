@@ -166,6 +166,21 @@ turns_narrow body body' body'' each (suc left) desk first second same same' goes
     (λ here there on on'.
     turns_narrow body body' body'' each left (body desk).desk (body' first).desk (body'' second).desk here there on on')
 
+-- where the counts are the same
+pub as_many_narrow : {more other : ℕ → Bool} (body body' body'' : Desk → Ran) →
+    ((desk first second : Desk) → IsSameBut more desk first → IsSameBut other desk second →
+    (body' first).outcome ≢ Stuck → (body'' second).outcome ≢ Stuck →
+    CameTo more other (body desk) (body' first) (body'' second)) → (count p q : ℕ) → p ≡ count → q ≡ count →
+    (desk first second : Desk) → IsSameBut more desk first → IsSameBut other desk second →
+    (turns p body' first).outcome ≢ Stuck → (turns q body'' second).outcome ≢ Stuck →
+    CameTo more other (turns count body desk) (turns p body' first) (turns q body'' second)
+as_many_narrow {more = more} {other = other} body body' body'' each count p q e f desk first second same same' =
+    subst (λ n. (turns n body' first).outcome ≢ Stuck → (turns q body'' second).outcome ≢ Stuck →
+    CameTo more other (turns count body desk) (turns n body' first) (turns q body'' second)) (sym e)
+    (subst (λ n. (turns count body' first).outcome ≢ Stuck → (turns n body'' second).outcome ≢ Stuck →
+    CameTo more other (turns count body desk) (turns count body' first) (turns n body'' second)) (sym f)
+    (turns_narrow body body' body'' each count desk first second same same'))
+
 -- ---- sides
 
 pub choose_narrow : {more other : ℕ → Bool} (z p q : Bool) (run one two run' one' two' : Ran) → p ≡ z → q ≡ z →

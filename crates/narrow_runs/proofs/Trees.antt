@@ -1,5 +1,5 @@
 -- A tree does the same in a layout that has no places but those that two others have in common.
-use Rattle.std.proofs.Common.{◌≡◌, ℕ, Bool, true, false, refl, if◌then◌else◌}
+use Rattle.std.proofs.Common.{◌≡◌, ℕ, Bool, true, false, refl, if◌then◌else◌, ap}
 use Rattle.std.proofs.lemmas.Bool.{and_parts, and_from, or_left, or_right}
 use Rattle.std.specs.Option.{is_some}
 use Rattle.cpu6502.specs.Opcodes.{opcode_of}
@@ -8,14 +8,14 @@ use Rattle.scopes.specs.Plain.{is_plain}
 use Rattle.scopes.specs.Steps.{done, done_with}
 use Rattle.scopes.specs.Trees.{DoTree, WithTree, NoneTree, ThenTree, ScopeTree, LeaveTree, LeaveIfTree, LoopTree}
 use Rattle.scopes.specs.Trees.{AgainTree, AgainIfTree, WhenTree, ChooseTree, NeverTree}
-use Rattle.scopes.specs.Meaning.{Done, Left, Again, each_one, ended, ran}
+use Rattle.scopes.specs.Meaning.{Done, Left, Again, each_one, ended, ran, turns_in}
 use Rattle.scope_lines.specs.Instructions.{mode_of, is_spelled}
 use Rattle.scope_lines.specs.Sizes.{most}
 use Rattle.scope_lines.specs.Reach.{before_bytes, behind_bytes, is_operand, has_lines, in_scope, in_loop}
 use Rattle.narrow_runs.specs.Named.{names}
 use Rattle.narrow_runs.specs.Narrow.{AgreesOn, TreesAreNarrow}
 use Rattle.narrow_runs.proofs.Instructions.{with_narrow, alone_narrow}
-use Rattle.narrow_runs.proofs.Lines.{came_to, steps_narrow, tests_narrow, then_narrow, scope_narrow, turns_narrow}
+use Rattle.narrow_runs.proofs.Lines.{came_to, steps_narrow, tests_narrow, then_narrow, scope_narrow, as_many_narrow}
 use Rattle.narrow_runs.proofs.Lines.{choose_narrow}
 
 -- ---- labels
@@ -27,6 +27,7 @@ agrees_less less agrees = record {
   addresses = λ label e. agrees.addresses label (less label e);
   pointer = agrees.pointer;
   holds = agrees.holds;
+  open_turns = agrees.open_turns;
 }
 
 this_named : (z p q : Bool) → z ≡ true → p ≡ true → (if z then p else q) ≡ true
@@ -90,10 +91,12 @@ trees_are_narrow reach (LeaveIfTree name test) narrow one two more other desk fi
     tests_narrow test (Left name) same same'
 trees_are_narrow reach (LoopTree count body) narrow one two more other desk first second has agrees agrees' is same
     same' goes goes' =
-    turns_narrow (ran each_one narrow body) (ran each_one one body) (ran each_one two body)
+    as_many_narrow (ran each_one narrow body) (ran each_one one body) (ran each_one two body)
     (λ d f s here there g g'.
     trees_are_narrow (in_loop reach) body narrow one two more other d f s has
-    (agrees_less (λ label e. e) agrees) (agrees_less (λ label e. e) agrees') is here there g g') count desk first second
+    (agrees_less (λ label e. e) agrees) (agrees_less (λ label e. e) agrees') is here there g g')
+    (turns_in narrow.open_turns count) (turns_in one.open_turns count) (turns_in two.open_turns count)
+    (ap (λ n. turns_in n count) agrees.open_turns) (ap (λ n. turns_in n count) agrees'.open_turns) desk first second
     same same' goes goes'
 trees_are_narrow reach AgainTree narrow one two more other desk first second has agrees agrees' is same same' goes
     goes' =

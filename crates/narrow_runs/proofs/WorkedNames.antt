@@ -56,6 +56,7 @@ wide_agrees named place e = record {
   addresses = λ label f. by_test label (nat_eq label 3) refl f;
   pointer = refl;
   holds = λ condition. refl;
+  open_turns = refl;
 }
   where
     by_test : (label : ℕ) (z : Bool) → nat_eq label 3 ≡ z → named label ≡ true →
@@ -140,6 +141,7 @@ agreement = record {
   addresses = λ a. (let no : 0x20 ≡ 0x11 = a.addresses 1 refl in absurd (cc));
   pointer = λ a. false≢true (ap (nat_eq 0xFC) a.pointer);
   holds = λ a. false≢true (sym (a.holds 7));
+  open_turns = λ a. (let no : 5 ≡ 4 = a.open_turns in cc);
 }
 
 narrowness : NarrownessIsDenied

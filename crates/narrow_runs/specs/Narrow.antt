@@ -12,11 +12,13 @@ use Rattle.narrow_runs.specs.Named.{names, entrance_names}
 
 -- ---- layouts and desks
 
--- a wide layout has these labels where the narrow one has them, the same pointer, and the same conditions
+-- a wide layout has these labels where the narrow one has them, the same pointer, the same conditions, and as many turns
+-- in an open loop
 pub record AgreesOn (named : ℕ → Bool) (narrow wide : Layout) : Type 0 where
   pub addresses : (label : ℕ) → named label ≡ true → wide.address label ≡ narrow.address label
   pub pointer : wide.pointer ≡ narrow.pointer
   pub holds : (condition : ℕ) → wide.holds condition ≡ narrow.holds condition
+  pub open_turns : wide.open_turns ≡ narrow.open_turns
 
 -- two wide layouts have more places each, and what both may read or write is none of these, and the narrow one may,
 -- too; nor is the pointer one of them

@@ -125,6 +125,7 @@ narrow_one = record {
   address = λ label. 0x10 + label;
   pointer = 0xFC;
   holds = never;
+  open_turns = 4;
   may_read = λ place. nat_eq place 0x11;
   may_write = λ place. nat_eq place 0x12;
 }
@@ -135,6 +136,7 @@ wide_one place = record {
   address = λ label. if nat_eq label 3 then place else 0x10 + label;
   pointer = 0xFC;
   holds = never;
+  open_turns = 4;
   may_read = λ other. nat_eq other 0x11 || nat_eq other place;
   may_write = λ other. nat_eq other 0x12 || nat_eq other place;
 }
@@ -205,7 +207,7 @@ pub record IsMet : Type 0 where
 
 -- ---- what is refused
 
--- another address, another pointer, and another condition
+-- another address, another pointer, another condition, and other turns of an open loop
 abbrev pub Agrees : Layout → Type 0
 Agrees wide = AgreesOn (names never copying) narrow_one wide
 
@@ -213,6 +215,7 @@ pub record AgreementIsDenied : Type 0 where
   pub addresses : Agrees (record (wide_one 0x20) { address = λ label. 0x20 }) → ⊥
   pub pointer : Agrees (record (wide_one 0x20) { pointer = 0xFB }) → ⊥
   pub holds : Agrees (record (wide_one 0x20) { holds = nat_eq 7 }) → ⊥
+  pub open_turns : Agrees (record (wide_one 0x20) { open_turns = 5 }) → ⊥
 
 -- a place that both may read, or write, and the narrow layout mayn't, or that is one of the differing ones; and a
 -- pointer that is one of them

@@ -20,6 +20,7 @@ from_1000 = record {
   address = λ label. if nat_lt label VARIABLES then 0x1000 + label else 0x2000 + 0x100 * (label - FREQUENCY_LOWS);
   pointer = 0xFC;
   holds = λ condition. true;
+  open_turns = 255;
   may_read = λ place. true;
   may_write = λ place. true;
 }

@@ -21,7 +21,8 @@ use Rattle.player_calls.proofs.Histories.{spot_after, stand_moved, stand_after, 
 
 -- a call that returns is the one that its entrance means
 quick : (e : Listed) (machine : Machine) (number steps : ℕ) (after : Machine) (r : Returns e machine number) →
-    Called machine e.entry number steps after → (numbers : List ℕ) → AdmitsEntrance e.entrance numbers →
+    Called machine e.entry number steps after → (numbers : List ℕ) →
+    AdmitsEntrance e.open_turns e.entrance numbers →
     call_cycles machine e.entry number steps ≤ bound_by numbers + around_cycles
 quick e machine number steps after r called numbers admits =
     let same = called_once machine e.entry number steps r.steps after r.after called r.called in

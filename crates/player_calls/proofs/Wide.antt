@@ -147,6 +147,7 @@ agrees plan which named has = record {
   addresses = λ label is. wide_at plan which label (has label is);
   pointer = refl;
   holds = λ condition. refl;
+  open_turns = refl;
 }
 
 -- ---- the two entrances

@@ -44,7 +44,7 @@ PlayersKeepBounds =
     (number steps : ℕ) (after : Machine) → LeadTo bytes plan.origin song earlier before → IsMachine machine →
     AgreesOn bytes plan.origin before machine → IsMade song call number →
     Called machine (entry_of plan.origin call) number steps after → (numbers : List ℕ) →
-    AdmitsEntrance (entrance_of plan call) numbers →
+    AdmitsEntrance plan.open_turns (entrance_of plan call) numbers →
     call_cycles machine (entry_of plan.origin call) number steps ≤ bound_by numbers + around_cycles
 
 -- as it is loaded it holds the start of the first subtune, where the variables without a byte have a spare zero

@@ -26,6 +26,7 @@ wide_layout plan which = record {
   address = wide_address plan which;
   pointer = plan.pointer;
   holds = plan.holds;
+  open_turns = plan.open_turns;
   may_read = λ place. plan.may_read place || is_spare which place;
   may_write = λ place. plan.may_write place || is_spare which place;
 }

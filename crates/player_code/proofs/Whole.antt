@@ -72,6 +72,7 @@ laid plan lines = record {
   address = address_in lines plan.origin;
   pointer = plan.pointer;
   holds = plan.holds;
+  open_turns = plan.open_turns;
   may_read = plan.may_read;
   may_write = plan.may_write;
 }

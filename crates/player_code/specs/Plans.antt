@@ -42,7 +42,7 @@ pub record IsData (lists : List Line) : Type 0 where
 
 -- the places of the variables, by their labels, and the bytes with which they begin, by their places; the place of the
 -- pointer in page 0, the conditions that hold, the numbers with which a subtune begins, the lines of the lists, the
--- address of the first byte, and where the blocks may read and write
+-- address of the first byte, how many turns an open loop has, and where the blocks may read and write
 pub record Plan : Type 0 where
   pub places : ℕ → ℕ
   pub variables : List ℕ
@@ -51,6 +51,7 @@ pub record Plan : Type 0 where
   pub start : Start
   pub lists : List Line
   pub origin : ℕ
+  pub open_turns : ℕ
   pub may_read : ℕ → Bool
   pub may_write : ℕ → Bool
 
@@ -85,6 +86,7 @@ plan_layout plan = record {
   address = address_in (plan_lines plan) plan.origin;
   pointer = plan.pointer;
   holds = plan.holds;
+  open_turns = plan.open_turns;
   may_read = plan.may_read;
   may_write = plan.may_write;
 }
@@ -106,6 +108,7 @@ play_listed plan = record {
   set = 0;
   origin = plan.origin;
   entry = plan.origin + 3;
+  open_turns = plan.open_turns;
   may_read = plan.may_read;
   may_write = plan.may_write;
 }
@@ -119,6 +122,7 @@ init_listed plan = record {
   set = 0;
   origin = plan.origin;
   entry = plan.origin;
+  open_turns = plan.open_turns;
   may_read = plan.may_read;
   may_write = plan.may_write;
 }

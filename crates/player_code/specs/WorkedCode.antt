@@ -46,6 +46,7 @@ plan_with places variables holds = record {
   start = record { tempo = 5; funk = 8; timer_low = 0; timer_high = 0 };
   lists = worked_lists;
   origin = 0x1000;
+  open_turns = 255;
   may_read = λ place. false;
   may_write = λ place. false;
 }

@@ -18,6 +18,7 @@ use Rattle.player_desk.proofs.VoiceDesks.{SeenLeads, SlideLeads}
 use Rattle.player_desk.proofs.VoiceDesks.{VarLeads, PutLeads, WritesLead, EffectLeads, ByteLeads, OperandLeads}
 use Rattle.player_desk.proofs.VoiceDesks.{QuietLeads, alone_done, is_alone, Ways, done_as, in_scope, again_as}
 use Rattle.player_desk.proofs.VoiceDesks.{TurnsLead, Leading}
+use Rattle.scopes.specs.Meaning.{turns_in}
 
 -- what follows
 pub record Follows (one two : Ways) : Type 0 where
@@ -144,7 +145,8 @@ leads_on voiced r (LeaveTree name) one two d follows p = follows.left name d p
 leads_on voiced r (LeaveIfTree name test) one two d follows p =
     (λ met. follows.left name d (p.0 met), λ unmet. follows.done d (p.1 unmet))
 leads_on voiced r (LoopTree count body) one two d follows p =
-    turns_on (Leading voiced r body) (λ a b m f q. leads_on voiced r body a b m f q) count one two d follows p
+    turns_on (Leading voiced r body) (λ a b m f q. leads_on voiced r body a b m f q)
+    (turns_in r.layout.open_turns count) one two d follows p
 leads_on voiced r AgainTree one two d follows p = follows.again d p
 leads_on voiced r (AgainIfTree test) one two d follows p =
     (λ met. follows.again d (p.0 met), λ unmet. follows.done d (p.1 unmet))

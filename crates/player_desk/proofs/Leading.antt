@@ -10,7 +10,7 @@ use Rattle.scopes.specs.Desk.{Desk}
 use Rattle.scopes.specs.Steps.{done, done_with}
 use Rattle.scopes.specs.Trees.{Tree, DoTree, WithTree, NoneTree, ThenTree, ScopeTree, LeaveTree, LeaveIfTree, LoopTree}
 use Rattle.scopes.specs.Trees.{AgainTree, AgainIfTree, WhenTree, ChooseTree, NeverTree}
-use Rattle.scopes.specs.Meaning.{Outcome, Done, Left, Again, Stuck, Ran, each_one, ended, stepped, behind, and_then}
+use Rattle.scopes.specs.Meaning.{Outcome, Done, Left, Again, Stuck, Ran, each_one, ended, stepped, behind, and_then, turns_in}
 use Rattle.scopes.specs.Meaning.{out_of_scope, scoped, next_turn, turns, ran}
 use Rattle.scopes.specs.Meaning.{is_met as meant_is_met}
 use Rattle.player_desk.proofs.VoiceDesks.{VoiceDesk, Reader, Either}
@@ -146,7 +146,7 @@ led ground (LeaveIfTree name test) ways desk d shows leads =
     if_led (Left name) desk d (is_met test d) (meant_is_met test desk) (test_is shows test) shows leads.0 leads.1
 led {voiced = voiced} {r = r} ground (LoopTree count body) ways desk d shows leads =
     turns_led (Leading voiced r body) (ran each_one r.layout body) ways
-    (λ w more m shown on. led ground body w more m shown on) count desk d shows leads
+    (λ w more m shown on. led ground body w more m shown on) (turns_in r.layout.open_turns count) desk d shows leads
 led ground AgainTree ways desk d shows leads = record { after = d; shows = shows; way = leads }
 led ground (AgainIfTree test) ways desk d shows leads =
     if_led Again desk d (is_met test d) (meant_is_met test desk) (test_is shows test) shows leads.0 leads.1

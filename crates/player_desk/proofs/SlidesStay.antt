@@ -21,6 +21,7 @@ use Rattle.player_desk.proofs.VoiceDesks.{WithLeads}
 use Rattle.player_desk.proofs.VoiceDesks.{QuietLeads, alone_done, is_alone, Ways, done_as, in_scope, again_as}
 use Rattle.player_desk.proofs.VoiceDesks.{TurnsLead, Leading}
 use Rattle.player_desk.proofs.Following.{Follows, fits_on, seen_on, turns_on, leads_on}
+use Rattle.scopes.specs.Meaning.{turns_in}
 
 -- ---- which code does
 
@@ -290,7 +291,7 @@ slides_stay voiced r (LeaveIfTree name test) ways d leaves leads =
     (λ met. (same_slides d, leads.0 met), λ unmet. (same_slides d, leads.1 unmet))
 slides_stay voiced r (LoopTree count body) ways d leaves leads =
     turns_keep (Leading voiced r body) (λ w m q. slides_stay voiced r body w m leaves q)
-    (λ one two m follows q. leads_on voiced r body one two m follows q) count ways d leads
+    (λ one two m follows q. leads_on voiced r body one two m follows q) (turns_in r.layout.open_turns count) ways d leads
 slides_stay voiced r AgainTree ways d leaves leads = (same_slides d, leads)
 slides_stay voiced r (AgainIfTree test) ways d leaves leads =
     (λ met. (same_slides d, leads.0 met), λ unmet. (same_slides d, leads.1 unmet))

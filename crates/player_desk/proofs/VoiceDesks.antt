@@ -31,6 +31,7 @@ use Rattle.scopes.specs.Plain.{is_plain}
 use Rattle.player_memory.specs.declared.conditions.TheConstants.{NOTE_DEPENDENT}
 use Rattle.player_memory.specs.declared.labels.TheConstants.{TEMPO, SLIDES_LOW, SLIDES_HIGH}
 use Rattle.player_memory.specs.Labels.{is_own, is_shared, is_tempo}
+use Rattle.scopes.specs.Meaning.{turns_in}
 
 pub record VoiceDesk : Type 0 where
   pub own : ℕ → ℕ
@@ -265,7 +266,8 @@ Leading voiced r (ScopeTree name body) ways d = Leading voiced r body (in_scope 
 Leading voiced r (LeaveTree name) ways d = ways.Left name d
 Leading voiced r (LeaveIfTree name test) ways d =
     (is_met test d ≡ true → ways.Left name d) × (is_met test d ≡ false → ways.Done d)
-Leading voiced r (LoopTree count body) ways d = TurnsLead count (Leading voiced r body) ways d
+Leading voiced r (LoopTree count body) ways d =
+    TurnsLead (turns_in r.layout.open_turns count) (Leading voiced r body) ways d
 Leading voiced r AgainTree ways d = ways.Again d
 Leading voiced r (AgainIfTree test) ways d = (is_met test d ≡ true → ways.Again d) ×
     (is_met test d ≡ false → ways.Done d)

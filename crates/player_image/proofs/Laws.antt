@@ -7,3 +7,5 @@ pub use Rattle.player_image.proofs.Alone.{images_are_one}
 pub use Rattle.player_image.proofs.Systems.{systems_share_images}
 -- how many bytes an image's listing takes
 pub use Rattle.player_image.proofs.Assembled.{its_size}
+-- how many variables have a byte in it
+pub use Rattle.player_image.proofs.Placed.{placed_length}

@@ -404,4 +404,5 @@ module _ (packed : PackedSong) (o : Options) (origin pointer : ℕ) (variables :
         envelopes = laid.envelopes;
         orders = laid.orders;
         patterns = laid.patterns;
+        walks = omega arith;
       }

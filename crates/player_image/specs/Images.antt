@@ -23,6 +23,7 @@ use Rattle.song_lists.specs.ListLaws.{lists_size}
 use Rattle.player_code.specs.CodeLines.{code_lines}
 use Rattle.player_code.specs.CodeLaws.{code_takes}
 use Rattle.player_code.specs.Plans.{Plan, plan_lines}
+use Rattle.packed_form.specs.WalkCount.{walk_count}
 
 -- which conditions hold
 abbrev pub image_holds : PackedSong → Options → ℕ → Bool
@@ -70,8 +71,8 @@ abbrev pub is_written : Bool → ℕ → ℕ → ℕ → ℕ → ℕ → Bool
 is_written timed count origin code all place =
     is_read count origin code all place || (is_within 0xD400 0xD419 place || (timed && is_within 0xDC04 0xDC06 place))
 
--- what the image with these variables, by their labels, and these lines of lists is made from, at an address, with a
--- pointer in page 0
+-- What the image with these variables, by their labels, and these lines of lists is made from, at an address, with a
+-- pointer in page 0. An open loop has the turns of the song's longest walk.
 abbrev pub plan_of : PackedSong → Options → ℕ → ℕ → List ℕ → List Line → Plan
 plan_of packed o origin pointer variables lists = record {
   places = image_places packed o;
@@ -81,6 +82,7 @@ plan_of packed o origin pointer variables lists = record {
   start = start_of o;
   lists = lists;
   origin = origin;
+  open_turns = walk_count packed;
   may_read = is_read (image_count packed o) origin (code_bytes packed o pointer variables)
       (code_bytes packed o pointer variables + size_of lists);
   may_write = is_written (image_holds packed o TIMED) (image_count packed o) origin (code_bytes packed o pointer variables)
@@ -93,6 +95,7 @@ numbered = record {
   address = λ label. label;
   pointer = 0;
   holds = λ condition. true;
+  open_turns = 255;
   may_read = λ place. false;
   may_write = λ place. false;
 }

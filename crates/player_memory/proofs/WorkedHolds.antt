@@ -39,6 +39,7 @@ use Rattle.player_memory.proofs.Standing.{playing_in}
 use Rattle.player_memory.proofs.WorkedRooms.{IsLaid, IsOpen, room_in, uses_in, behind_slides, off_variables}
 use Rattle.player_memory.proofs.Starting.{voice_begins, shared_rows_begin, beginnings_play}
 use Rattle.player_memory.proofs.SetLists.{all_are_set, lists_stand, behind}
+use Rattle.packed_form.specs.WalkCount.{walk_count, most_looks, looks_from}
 
 -- ---- lists
 
@@ -204,6 +205,10 @@ orders number few =
     ltb-true _ MEMORY_SIZE
     (agree_below_at (λ n. nat_lt (list_layout.address (ORDERS + n)) MEMORY_SIZE) (λ n. true) 6 number refl few)
 
+walk : walk_count worked_song ≡ 3
+unfolding walk_count most_looks looks_from
+walk = refl
+
 laid : IsLaidOut list_layout
 laid = record {
   room = room_in list_layout is_laid;
@@ -217,6 +222,7 @@ laid = record {
   envelopes = omega arith;
   orders = orders;
   patterns = patterns;
+  walks = omega (arith, walk);
 }
 
 last_place : PatternAt 0x10000
@@ -239,6 +245,7 @@ layouts_are_worked = record {
   laid = laid;
   port = λ is. (let l = is.room.pointer_low in omega (arith, l));
   closed = λ is. both_ways false refl (is.uses.registers 0 (omega arith));
+  few_turns = λ is. (let l = is.walks in omega (arith, l, walk));
   frequency_low = λ is. (let e = is.next.frequency_lows in omega (arith, e));
   frequency_high = λ is. (let e = is.next.frequency_highs in omega (arith, e));
   wave_left = λ is. (let e = is.next.wave_lefts in omega (arith, e));

@@ -26,6 +26,7 @@ use Rattle.player_memory.specs.Playing.{own_at, shared_at, place_in, IsPlaying}
 use Rattle.player_memory.specs.Fetching.{place_before, IsInSong}
 use Rattle.player_memory.specs.SongLists.{SongList, IsSongList, HasNumber, list_label, pattern_bytes, slide_rows}
 use Rattle.player_memory.specs.SongLists.{HasSongLists}
+use Rattle.packed_form.specs.WalkCount.{walk_count}
 
 -- ---- states
 
@@ -80,7 +81,8 @@ pub record PatternStands (layout : Layout) (packed : PackedSong) (number : ℕ) 
   pub reads_before : layout.may_read (place_before layout number) ≡ true
 
 -- the variables, the slides and the pointer have their room, which the code may use; the bytes of the lists stand from
--- $0800 on, and those that stand alone for all instruments within memory
+-- $0800 on, and those that stand alone for all instruments within memory; and an open loop has turns enough for a walk
+-- along each orderlist
 pub record IsPlayerLayout (layout : Layout) (packed : PackedSong) : Type 0 where
   pub room : IsRoom layout (slide_rows packed)
   pub uses : MayUse layout (slide_rows packed)
@@ -93,6 +95,7 @@ pub record IsPlayerLayout (layout : Layout) (packed : PackedSong) : Type 0 where
   pub envelopes : layout.address ENVELOPE_FROM < MEMORY_SIZE
   pub orders : (number : ℕ) → number < 3 * length packed.subtunes → layout.address (ORDERS + number) < MEMORY_SIZE
   pub patterns : (number : ℕ) → number < length packed.patterns → PatternStands layout packed number
+  pub walks : walk_count packed ≤ layout.open_turns
 
 -- ---- what is kept
 

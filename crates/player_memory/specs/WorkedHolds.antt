@@ -19,6 +19,7 @@ use Rattle.player_memory.specs.Holds.{KeepsUsed, held}
 use Rattle.player_memory.specs.WorkedPlays.{with_variable}
 use Rattle.player_memory.specs.WorkedStarting.{with_voice_begun}
 use Rattle.player_memory.specs.WorkedLists.{all_pieces, worked_song, plain_song, list_layout, plain_layout}
+use Rattle.packed_form.specs.WalkCount.{walk_count}
 
 -- ---- the memory
 
@@ -114,6 +115,8 @@ pub record LayoutsAreWorked : Type 0 where
   pub laid : IsLaidOut list_layout
   pub port : ¬ IsLaidOut (record list_layout { pointer = 1 })
   pub closed : ¬ IsLaidOut (record list_layout { may_write = λ place. nat_le 0x1006 place && nat_lt place 0x1108 })
+  -- a walk along an orderlist of transposes and repeats
+  pub few_turns : ¬ IsLaidOut (record list_layout { open_turns = walk_count worked_song - 1 })
   -- the byte behind a label's
   pub frequency_low : ¬ IsLaidOut (moved_in list_layout NEXT_FREQUENCY_LOWS 0x1210)
   pub frequency_high : ¬ IsLaidOut (moved_in list_layout NEXT_FREQUENCY_HIGHS 0x12A0)

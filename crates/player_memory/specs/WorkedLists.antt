@@ -202,6 +202,7 @@ place_with (row ∷ rows) others label = if nat_eq label row.0 then row.1 else p
 abbrev pub list_layout : Layout
 list_layout = record at_1000 {
   address = place_with (map (λ p. (p.label, p.place)) all_pieces ++ next_places) at_1000.address;
+  open_turns = 255;
   may_read = λ place. nat_le 0x1000 place && nat_lt place 0x1400;
 }
 

@@ -166,6 +166,7 @@ at_1000 = record {
       label;
   pointer = 0xFC;
   holds = everywhere;
+  open_turns = 255;
   may_read = λ place. nat_le 0x1000 place && nat_lt place 0x1200;
   may_write = λ place. nat_le 0x1006 place && nat_lt place 0x1108 || nat_le 0xD400 place && nat_le place 0xD418;
 }

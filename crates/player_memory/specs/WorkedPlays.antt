@@ -119,6 +119,7 @@ abbrev pub far_lists : Layout
 far_lists = record at_1000 {
   address = λ label. if nat_eq label PULSE_LEFTS then 0x2000 else if nat_eq label PULSE_RIGHTS then 0x2100 else
       at_1000.address label;
+  open_turns = 255;
   may_read = λ place. true;
 }
 

@@ -6,7 +6,7 @@ use player_memory::labels::{
     OFFSET, ORDER_HIGH, ORDER_LOW, ORDER_PLACE, PATTERN_HIGH, PATTERN_LOW, PATTERNS_HIGH,
     PATTERNS_LOW, REPEAT, TRANSPOSE,
 };
-use scopes::{Line, text};
+use scopes::{Line, OPEN, text};
 
 /// No plays are left of the pattern.
 pub const NEW: u8 = 0;
@@ -31,7 +31,7 @@ pub const PLAY_REPEATED: &[Line] = text! {
 };
 
 /// Walks along the orderlist to the next pattern: over transposes and repeats, and from the endmark on at the restart
-/// position. Behind it A is the pattern's number, and Y the place behind that.
+/// position, in as many turns as the song's longest walk has looks. Behind it A is the pattern's number, and Y the place behind that.
 pub const ORDER_WALKED: &[Line] = text! {
     Lda Own ORDER_LOW;
     Sta Pointer Low;
@@ -39,7 +39,7 @@ pub const ORDER_WALKED: &[Line] = text! {
     Sta Pointer High;
     Ldy Own ORDER_PLACE;
     scope PATTERN {
-        turns 255 {
+        turns OPEN {
             Lda Pointed;
             Iny;
             Cmp Number 0xD0;

@@ -16,6 +16,7 @@ from_1000 = record {
   address = λ label. 0x1000 + label;
   pointer = 0xFC;
   holds = λ condition. true;
+  open_turns = 255;
   may_read = λ place. true;
   may_write = λ place. true;
 }

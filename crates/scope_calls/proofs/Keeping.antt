@@ -17,7 +17,7 @@ use Rattle.scopes.specs.Desk.{Desk, Layout, operand_place, operand_read}
 use Rattle.scopes.specs.Steps.{all_may, effected, unless_stopped, is_store, may_see, may_change, done_with}
 use Rattle.scopes.specs.Trees.{Tree, DoTree, WithTree, NoneTree, ThenTree, ScopeTree, LeaveTree, LeaveIfTree, LoopTree}
 use Rattle.scopes.specs.Trees.{AgainTree, AgainIfTree, WhenTree, ChooseTree, NeverTree}
-use Rattle.scopes.specs.Meaning.{Outcome, Done, Left, Again, Stuck, Ran, Prices, is_met, ended, stepped, behind}
+use Rattle.scopes.specs.Meaning.{Outcome, Done, Left, Again, Stuck, Ran, Prices, is_met, ended, stepped, behind, turns_in}
 use Rattle.scopes.specs.Meaning.{and_then, next_turn, turns, ran}
 use Rattle.scopes.specs.Plain.{is_plain}
 use Rattle.scope_lines.specs.Instructions.{mode_of, alone_mode, is_spelled}
@@ -179,7 +179,8 @@ ran_keeps prices layout reach (LeaveTree name) desk has = refl
 ran_keeps prices layout reach (LeaveIfTree name test) desk has =
     if_keeps desk (is_met test desk) (ended (Left name) desk prices.left) (ended Done desk prices.stayed) refl refl
 ran_keeps prices layout reach (LoopTree count body) desk has =
-    turns_keep (ran prices layout body) (λ more. ran_keeps prices layout (in_loop reach) body more has) count desk
+    turns_keep (ran prices layout body) (λ more. ran_keeps prices layout (in_loop reach) body more has)
+    (turns_in layout.open_turns count) desk
 ran_keeps prices layout reach AgainTree desk has = refl
 ran_keeps prices layout reach (AgainIfTree test) desk has =
     if_keeps desk (is_met test desk) (ended Again desk prices.taken) (ended Done desk prices.passed) refl refl

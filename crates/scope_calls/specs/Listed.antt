@@ -22,7 +22,7 @@ use Rattle.scope_calls.specs.Entrances.{Entrance, entrance_lines, entrance_size,
 use Rattle.scope_calls.specs.Meaning.{entrance_ran}
 
 -- an entrance in a listing: the lines before and behind its own, with which parts and where the listing is assembled,
--- where the jump stands by which it is entered, and where its blocks may read and write
+-- where the jump stands by which it is entered, how many turns an open loop has, and where its blocks may read and write
 pub record Listed : Type 0 where
   pub front : List Line
   pub entrance : Entrance
@@ -30,6 +30,7 @@ pub record Listed : Type 0 where
   pub set : ℕ
   pub origin : ℕ
   pub entry : ℕ
+  pub open_turns : ℕ
   pub may_read : ℕ → Bool
   pub may_write : ℕ → Bool
 
@@ -55,6 +56,7 @@ layout_at e = record {
   address = address_in (kept e.set (listing_at e)) e.origin;
   pointer = e.entrance.pointer;
   holds = e.entrance.holds;
+  open_turns = e.open_turns;
   may_read = e.may_read;
   may_write = e.may_write;
 }

@@ -76,6 +76,7 @@ listed entrance = record {
   set = 0;
   origin = 0x1000;
   entry = 0x1000;
+  open_turns = 255;
   may_read = λ place. nat_eq place 0xD418;
   may_write = λ place. nat_le 0xD400 place && nat_le place 0xD418;
 }

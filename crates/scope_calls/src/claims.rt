@@ -13,8 +13,8 @@ ghost use Rattle.scope_calls.specs.WorkedEntrances.{FirstMustEnd, VoicesMustEnd}
 
 /// A machine of 65,536 bytes that holds the code of a well entered entrance, and is called at it with any number in A,
 /// returns in the machine whose memory is what the entrance means, where its blocks come to their ends. The steps are
-/// those that it counts, and the jump; each write is where the blocks may write, or at the two bytes of the stack below
-/// the call's own return address.
+/// those that it counts, and the jump, and the clock cycles those of its lines; each write is where the blocks may write,
+/// or at the two bytes of the stack below the call's own return address.
 #[tactic(auto, using(crate::proofs::Whole::entrances_return))]
 pub fn entrances_return()
     ensures { EntrancesReturn }
@@ -26,8 +26,8 @@ pub fn calls_are_short()
 {}
 
 /// Calls of an entrance in two machines that agree on the bytes that its blocks may read, none of them on the stack,
-/// take the same number of steps, and leave the same bytes there, where the blocks read what is known alone, and where
-/// both are called with the same number, if the first block may rest on it.
+/// take the same number of steps and of clock cycles, and leave the same bytes there, where the blocks read what is known
+/// alone, and where both are called with the same number, if the first block may rest on it.
 pub fn entrances_are_isolated()
     ensures { EntrancesAreIsolated }
 {}

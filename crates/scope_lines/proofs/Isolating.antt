@@ -6,7 +6,7 @@ use Rattle.scopes.specs.Desk.{Desk, Layout}
 use Rattle.scopes.specs.Steps.{done, done_with}
 use Rattle.scopes.specs.Trees.{DoTree, WithTree, NoneTree, ThenTree, ScopeTree, LeaveTree, LeaveIfTree, LoopTree}
 use Rattle.scopes.specs.Trees.{AgainTree, AgainIfTree, WhenTree, ChooseTree, NeverTree}
-use Rattle.scopes.specs.Meaning.{Outcome, Done, Left, Again, Stuck, Ran, each_one, is_met, ended, stepped, paid, behind}
+use Rattle.scopes.specs.Meaning.{Outcome, Done, Left, Again, Stuck, Ran, each_one, is_met, ended, stepped, paid, behind, turns_in}
 use Rattle.scopes.specs.Meaning.{and_then, out_of_scope, scoped, next_turn, turns, ran}
 use Rattle.scope_lines.specs.Instructions.{mode_of, is_spelled}
 use Rattle.scope_lines.specs.Reach.{nothing_around, before_bytes, behind_bytes, is_operand, has_lines, in_scope, in_loop}
@@ -268,7 +268,7 @@ trees_are_isolated layout reach (LeaveIfTree name test) before one two has reads
 trees_are_isolated layout reach (LoopTree count body) before one two has reads s goes goes' =
     turns_same before (known body before) (ran each_one layout body) (turns_grow body before)
     (λ d e t g g'. trees_are_isolated layout
-    (in_loop reach) body before d e has reads t g g') count one two s goes goes'
+    (in_loop reach) body before d e has reads t g g') (turns_in layout.open_turns count) one two s goes goes'
 trees_are_isolated layout reach AgainTree before one two has reads s goes goes' =
     ends_same (turns_again true before everything) Again 1 (within_itself before) s
 trees_are_isolated layout reach (AgainIfTree test) before one two has reads s goes goes' =

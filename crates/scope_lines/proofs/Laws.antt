@@ -20,5 +20,6 @@ pub use Rattle.scope_lines.proofs.Counting.{AreCode, both_code, lines_are_code}
 -- they are at home in any listing, and none of them is refused there
 pub use Rattle.scope_lines.proofs.Homes.{lowered_lines_are_at_home, lowered_lines_are_not_refused}
 -- how lines are read from the first one on
-pub use Rattle.scope_lines.proofs.Readings.{Put, Nested, Chosen, simple_reads, scope_reads, choose_reads, ends_behind}
+pub use Rattle.scope_lines.proofs.Readings.{Put, Nested, Chosen, simple_reads, scope_reads, loop_reads, when_reads}
+pub use Rattle.scope_lines.proofs.Readings.{choose_reads, ends_behind}
 pub use Rattle.scope_lines.proofs.Goings.{simple_size, is_simple_if, own_most}

@@ -19,7 +19,7 @@ use Rattle.scopes.specs.Desk.{Desk}
 use Rattle.scopes.specs.Steps.{done, done_with}
 use Rattle.scopes.specs.Trees.{Tree, DoTree, WithTree, NoneTree, ThenTree, ScopeTree, LeaveTree, LeaveIfTree, LoopTree}
 use Rattle.scopes.specs.Trees.{AgainTree, AgainIfTree, WhenTree, ChooseTree, NeverTree}
-use Rattle.scopes.specs.Meaning.{Outcome, Done, Left, Again, Stuck, Ran, each_one, is_met, ended, behind, and_then}
+use Rattle.scopes.specs.Meaning.{Outcome, Done, Left, Again, Stuck, Ran, each_one, is_met, ended, behind, and_then, turns_in}
 use Rattle.scopes.specs.Meaning.{out_of_scope, scoped, next_turn, turns, ran}
 use Rattle.scope_lines.specs.Instructions.{mode_of, argument_of, alone_mode, is_spelled}
 use Rattle.scope_lines.specs.Sizes.{size, most}
@@ -328,8 +328,8 @@ tree_comes g around reach (LoopTree count body) place desk has is low high code 
     } in
     turns_come g around place end (ran each_one g.layout body) (cycles g.layout (in_loop place around) place body)
     (λ more kept goes.
-    tree_comes g (in_loop place around) (reach_in_loop reach) body place more has inner low high kept s goes) count desk
-    code runs
+    tree_comes g (in_loop place around) (reach_in_loop reach) body place more has inner low high kept s goes)
+    (turns_in g.layout.open_turns count) desk code runs
 tree_comes g around reach AgainTree place desk has is low high code s runs =
     let far = there reach.head has in
     let at = is.near.head far.0 far.1 in

@@ -4,7 +4,7 @@ use Rattle.scopes.specs.declared.line.Line.{Line}
 use Rattle.scopes.specs.declared.line.Line.TheVariants.{Do, With, Scope, Leave, LeaveIf, Loop, Again, AgainIf, When}
 use Rattle.scopes.specs.declared.line.Line.TheVariants.{Choose, Or, Never, End}
 use Rattle.scopes.specs.Trees.{Tree, DoTree, WithTree, ThenTree, ScopeTree, LeaveTree, LeaveIfTree, AgainTree}
-use Rattle.scopes.specs.Trees.{AgainIfTree, ChooseTree, NeverTree}
+use Rattle.scopes.specs.Trees.{AgainIfTree, LoopTree, WhenTree, ChooseTree, NeverTree}
 use Rattle.scopes.specs.Trees.{Open, Lines, Other, put_before, led, opened}
 use Rattle.scope_lines.specs.Readings.{first_of, behind_of, are_open, simple, is_simple}
 
@@ -59,6 +59,36 @@ scope_reads name (Lines body ∷ Other rest ∷ more) e = absurd (cc)
 scope_reads name (Lines body ∷ []) e = absurd (cc)
 scope_reads name (Other body ∷ more) e = absurd (cc)
 scope_reads name [] e = absurd (cc)
+
+pub loop_reads : (count : ℕ) (opens : List Open) → are_open (led (Loop count) opens) ≡ true →
+    Nested (LoopTree count) opens (led (Loop count) opens)
+loop_reads count (Lines body ∷ Lines rest ∷ more) e =
+    record {
+      inner = refl;
+      outer = refl;
+      first = refl;
+      behind = behind_same
+          (ThenTree (LoopTree count body) rest) rest more;
+    }
+loop_reads count (Lines body ∷ Other rest ∷ more) e = absurd (cc)
+loop_reads count (Lines body ∷ []) e = absurd (cc)
+loop_reads count (Other body ∷ more) e = absurd (cc)
+loop_reads count [] e = absurd (cc)
+
+pub when_reads : (condition : ℕ) (opens : List Open) → are_open (led (When condition) opens) ≡ true →
+    Nested (WhenTree condition) opens (led (When condition) opens)
+when_reads condition (Lines body ∷ Lines rest ∷ more) e =
+    record {
+      inner = refl;
+      outer = refl;
+      first = refl;
+      behind = behind_same
+          (ThenTree (WhenTree condition body) rest) rest more;
+    }
+when_reads condition (Lines body ∷ Other rest ∷ more) e = absurd (cc)
+when_reads condition (Lines body ∷ []) e = absurd (cc)
+when_reads condition (Other body ∷ more) e = absurd (cc)
+when_reads condition [] e = absurd (cc)
 
 -- a choice: its two sides, and what is behind
 pub record Chosen (condition : ℕ) (opens after : List Open) : Type 0 where

@@ -12,12 +12,12 @@ use Rattle.scopes.specs.Desk.{Desk, Layout, operand_place}
 use Rattle.scopes.specs.Steps.{is_store}
 use Rattle.scopes.specs.Trees.{DoTree, WithTree, NoneTree, ThenTree, ScopeTree, LeaveTree, LeaveIfTree, LoopTree}
 use Rattle.scopes.specs.Trees.{AgainTree, AgainIfTree, WhenTree, ChooseTree, NeverTree}
-use Rattle.scopes.specs.Meaning.{Outcome, Done, Left, Again, Stuck, Ran, each_one, is_met, ended, behind, and_then}
+use Rattle.scopes.specs.Meaning.{Outcome, Done, Left, Again, Stuck, Ran, each_one, ended, behind, and_then, turns_in}
 use Rattle.scopes.specs.Meaning.{out_of_scope, next_turn, turns, ran}
-use Rattle.scope_lines.specs.Instructions.{mode_of, is_spelled}
+use Rattle.scope_lines.specs.Instructions.{mode_of}
 use Rattle.scope_lines.specs.Sizes.{size, most}
 use Rattle.scope_lines.specs.Lines.{in_scope, in_loop}
-use Rattle.scope_lines.specs.Reach.{before_bytes, behind_bytes, is_operand, has_lines}
+use Rattle.scope_lines.specs.Reach.{before_bytes, behind_bytes, has_lines}
 use Rattle.scope_lines.specs.Reach.{in_scope as reach_in_scope, in_loop as reach_in_loop}
 use Rattle.scope_lines.specs.Known.{Known, Ways, nothing, either, reads, finds, half_of, with_reads, test_reads, known}
 use Rattle.scope_lines.specs.Isolation.{Alike, known_at, RanAlike}
@@ -159,7 +159,7 @@ cycles_are_isolated layout around place reach (LoopTree count body) before one t
       trees_are_isolated layout (reach_in_loop reach) body before d e has reads t g g',
       cycles_are_isolated layout (in_loop place around) place (reach_in_loop reach) body before d e has reads t g g',
     ))
-    count one two s goes goes'
+    (turns_in layout.open_turns count) one two s goes goes'
 cycles_are_isolated layout around place reach AgainTree before one two has reads s goes goes' = refl
 cycles_are_isolated layout around place reach (AgainIfTree test) before one two has reads s goes goes' =
     ap (λ z. test_cycles z (address_in layout around (place + 2)) (address_in layout around around.head))

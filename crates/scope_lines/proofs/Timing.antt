@@ -1,15 +1,13 @@
 -- How many clock cycles one instruction takes where it stands.
-use Rattle.std.proofs.Common.{◌≡◌, ℕ, ◌+◌, ◌*◌, ◌%◌, ◌<◌, ◌≤◌, ◌&&◌, Bool, true, false, Option, Some, None}
+use Rattle.std.proofs.Common.{◌≡◌, ℕ, ◌+◌, ◌*◌, ◌%◌, ◌<◌, ◌≤◌, Bool, true, false, Some}
 use Rattle.std.proofs.Common.{refl, sym, ap, ◌∙◌, arith}
 use Rattle.std.proofs.lemmas.Bool.{false≢true}
-use Rattle.cpu6502.specs.declared.cpu.Cpu.{Cpu}
 use Rattle.cpu6502.specs.declared.mnemonic.Mnemonic.{Mnemonic}
 use Rattle.cpu6502.specs.declared.mnemonic.Mode.{Mode}
 use Rattle.cpu6502.specs.declared.mnemonic.Mode.TheVariants.{Absolute, Relative}
 use Rattle.cpu6502.specs.declared.mnemonic.Mnemonic.TheVariants.{Jmp}
-use Rattle.cpu6502.specs.Registers.{one_if}
 use Rattle.cpu6502.specs.Branches.{is_taken}
-use Rattle.cpu6502.specs.Cycles.{crosses, is_read, is_paged, index_cycles, branch_cycles}
+use Rattle.cpu6502.specs.Cycles.{is_paged, index_cycles, branch_cycles}
 use Rattle.cpu6502.specs.Manual.{read_cycles, cycles_of}
 use Rattle.code_runs.specs.Runs.{Leads}
 use Rattle.code_runs.specs.Code.{place_of, Stands}

@@ -1,14 +1,15 @@
 -- The lines of a tree run at most as many instructions as it weighs.
 use Rattle.std.proofs.Common.{◌≡◌, ℕ, zero, suc, ◌+◌, ◌*◌, ◌≤◌, max, Bool, true, false, Option}
 use Rattle.std.proofs.Common.{Some, None, arith, if◌then◌else◌}
-use Rattle.std.proofs.Math.Nat.{le-max_left, le-max_right}
+use Rattle.std.proofs.Math.Nat.{le-max_left, le-max_right, mul-le-mul_right}
 use Rattle.scopes.specs.Desk.{Desk}
 use Rattle.scopes.specs.Steps.{done, done_with}
 use Rattle.scopes.specs.Trees.{DoTree, WithTree, NoneTree, ThenTree, ScopeTree, LeaveTree, LeaveIfTree, LoopTree}
 use Rattle.scopes.specs.Trees.{AgainTree, AgainIfTree, WhenTree, ChooseTree, NeverTree}
-use Rattle.scopes.specs.Meaning.{Outcome, Done, Left, Again, Stuck, Ran, each_one, is_met, ended, stepped, behind}
+use Rattle.scopes.specs.Meaning.{Outcome, Done, Left, Again, Stuck, Ran, each_one, is_met, ended, stepped, behind, turns_in}
 use Rattle.scopes.specs.Meaning.{next_turn, turns, ran}
 use Rattle.scope_lines.specs.Weights.{weight, CostsAreBounded}
+use Rattle.scopes.proofs.Laws.{turns_within}
 
 step_costs : (result : Option Desk) (desk : Desk) → (stepped result desk 1).cost ≤ 1
 step_costs None desk = omega arith
@@ -57,7 +58,10 @@ costs_are_bounded layout (ScopeTree name body) desk = costs_are_bounded layout b
 costs_are_bounded layout (LeaveTree name) desk = omega arith
 costs_are_bounded layout (LeaveIfTree name test) desk = test_costs (Left name) desk (is_met test desk)
 costs_are_bounded layout (LoopTree count body) desk =
-    turns_cost (weight body) (ran each_one layout body) (costs_are_bounded layout body) count desk
+    let turns = turns_in layout.open_turns count in
+    let cost = turns_cost (weight body) (ran each_one layout body) (costs_are_bounded layout body) turns desk in
+    let more = mul-le-mul_right (weight body) (turns_within layout.open_turns count) in
+    omega (arith, cost, more)
 costs_are_bounded layout AgainTree desk = omega arith
 costs_are_bounded layout (AgainIfTree test) desk = test_costs Again desk (is_met test desk)
 costs_are_bounded layout (WhenTree condition body) desk =

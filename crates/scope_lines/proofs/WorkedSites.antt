@@ -8,7 +8,7 @@ use Rattle.asm6502.specs.declared.lines.Line.{Line}
 use Rattle.asm6502.specs.Lines.{kept, names, size_of, item_size, place_of}
 use Rattle.scopes.specs.Desk.{Layout}
 use Rattle.scope_lines.specs.Lowered.{listing_at, layout_at, writes_at, IsWellPlaced, Enters}
-use Rattle.scope_lines.specs.Isolation.{AgreeOnBytes, IsIsolated}
+use Rattle.scope_lines.specs.Isolation.{AgreeOnBytes}
 use Rattle.scope_lines.specs.WorkedSites.{state_with, sought_site, sought_bytes, seeks, SoughtIsLowered}
 use Rattle.scope_lines.specs.WorkedSites.{summed_site, pointing_bytes, adding_bytes, summed_bytes, sums}
 use Rattle.scope_lines.specs.WorkedSites.{SummedIsLowered, OthersAreNotIsolated}
@@ -80,6 +80,7 @@ sought_is_lowered = record {
     entered = sought_entered 0x22;
     done = refl;
     steps_are = refl;
+    cycles_are = refl;
     ends = refl;
     is = refl;
   };
@@ -89,6 +90,7 @@ sought_is_lowered = record {
     entered = sought_entered 0x55;
     done = refl;
     steps_are = refl;
+    cycles_are = refl;
     ends = refl;
     is = refl;
   };
@@ -138,6 +140,7 @@ summed_is_lowered = record {
     entered = summed_entered 3 0;
     done = refl;
     steps_are = refl;
+    cycles_are = refl;
     ends = refl;
     is = refl;
   };
@@ -146,6 +149,7 @@ summed_is_lowered = record {
     entered = summed_entered 12 0;
     done = refl;
     steps_are = refl;
+    cycles_are = refl;
     ends = refl;
     is = refl;
   };
@@ -156,6 +160,7 @@ summed_is_lowered = record {
     entered = summed_entered 3 200;
     done = refl;
     steps_are = refl;
+    cycles_are = refl;
     ends = refl;
     is = refl;
   };

@@ -12,7 +12,7 @@ use Rattle.scopes.specs.declared.line.Operand.{Operand}
 use Rattle.scopes.specs.Desk.{Desk, Layout, operand_place}
 use Rattle.scopes.specs.Trees.{Tree, DoTree, WithTree, NoneTree, ThenTree, ScopeTree, LeaveTree, LeaveIfTree, LoopTree}
 use Rattle.scopes.specs.Trees.{AgainTree, AgainIfTree, WhenTree, ChooseTree, NeverTree}
-use Rattle.scopes.specs.Meaning.{Outcome, Done, Again, Stuck, Ran, each_one, is_met, ran}
+use Rattle.scopes.specs.Meaning.{Outcome, Done, Again, Stuck, Ran, each_one, is_met, ran, turns_in}
 use Rattle.scope_lines.specs.Instructions.{mode_of, alone_mode}
 use Rattle.scope_lines.specs.Sizes.{size}
 use Rattle.scope_lines.specs.Lines.{Around, in_scope, in_loop, block_around}
@@ -74,7 +74,8 @@ cycles layout around place (LeaveTree name) desk = leave_cycles
 cycles layout around place (LeaveIfTree name test) desk =
     test_cycles (is_met test desk) (address_in layout around (place + 2)) (address_in layout around (around.ends name))
 cycles layout around place (LoopTree count body) desk =
-    turn_cycles count (ran each_one layout body) (cycles layout (in_loop place around) place body) desk
+    turn_cycles (turns_in layout.open_turns count) (ran each_one layout body)
+    (cycles layout (in_loop place around) place body) desk
 cycles layout around place AgainTree desk = leave_cycles
 cycles layout around place (AgainIfTree test) desk =
     test_cycles (is_met test desk) (address_in layout around (place + 2)) (address_in layout around around.head)

@@ -18,7 +18,7 @@ use Rattle.scope_lines.specs.Reach.{nothing_around, has_lines}
 
 -- a lowered block in a listing: the lines before and behind its own, with which parts and where the listing is
 -- assembled, the label from which the block counts places and how many bytes behind it the block begins, the block's
--- pointer, which of its conditions hold, and where it may read and write
+-- pointer, which of its conditions hold, how many turns an open loop has, and where it may read and write
 pub record Site : Type 0 where
   pub front : List Line
   pub tree : Tree
@@ -29,6 +29,7 @@ pub record Site : Type 0 where
   pub first : ℕ
   pub pointer : ℕ
   pub holds : ℕ → Bool
+  pub open_turns : ℕ
   pub may_read : ℕ → Bool
   pub may_write : ℕ → Bool
 
@@ -52,6 +53,7 @@ layout_at site = record {
   address = address_in (kept site.set (listing_at site)) site.origin;
   pointer = site.pointer;
   holds = site.holds;
+  open_turns = site.open_turns;
   may_read = site.may_read;
   may_write = site.may_write;
 }

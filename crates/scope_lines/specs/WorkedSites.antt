@@ -13,6 +13,7 @@ use Rattle.scope_lines.specs.declared.worked.TheConstants.{CAPPED, START, COUNTE
 use Rattle.scope_lines.specs.Lowered.{Site, listing_at, high_at, IsWellPlaced, Enters, meant}
 use Rattle.scope_lines.specs.Known.{is_known}
 use Rattle.scope_lines.specs.Isolation.{AgreeOnBytes, IsIsolated}
+use Rattle.scope_lines.specs.Cycles.{block_cycles}
 
 -- a name, and bytes that stand as they are
 abbrev pub name : ℕ → Line
@@ -28,13 +29,14 @@ state_with bytes pc a = record {
   at = λ place. if nat_lt place 0x1000 then a else slice_index bytes (place - 0x1000);
 }
 
--- a site and a state: it is well placed and entered, its block comes to its end in so many steps, at this place, with a
--- byte at another
-pub record IsMet (site : Site) (state : State) (steps end place byte : ℕ) : Type 0 where
+-- a site and a state: it is well placed and entered, its block comes to its end in so many steps and clock cycles, at
+-- this place, with a byte at another
+pub record IsMet (site : Site) (state : State) (steps takes end place byte : ℕ) : Type 0 where
   pub placed : IsWellPlaced site
   pub entered : Enters site state
   pub done : (meant site state).outcome ≡ Done
   pub steps_are : (meant site state).cost ≡ steps
+  pub cycles_are : block_cycles site state ≡ takes
   pub ends : high_at site ≡ end
   pub is : (meant site state).desk.at place ≡ byte
 
@@ -51,6 +53,7 @@ sought_site = record {
   first = 0;
   pointer = 0xFC;
   holds = λ condition. false;
+  open_turns = 255;
   may_read = λ place. nat_le 0x100D place && nat_lt place 0x1011;
   may_write = λ place. false;
 }
@@ -68,9 +71,9 @@ seeks a = state_with sought_bytes 0x1000 a
 -- the second byte is found in the third turn, after 13 steps; a byte that isn't there after 20
 pub record SoughtIsLowered : Type 0 where
   pub bytes : assembled_bytes sought_site.set sought_site.origin (listing_at sought_site) ≡ sought_bytes
-  pub found : IsMet sought_site (seeks 0x22) 13 0x100D 0x100E 0x22
+  pub found : IsMet sought_site (seeks 0x22) 13 35 0x100D 0x100E 0x22
   pub found_at : (meant sought_site (seeks 0x22)).desk.cpu.y ≡ 1
-  pub missed : IsMet sought_site (seeks 0x55) 20 0x100D 0x100E 0x22
+  pub missed : IsMet sought_site (seeks 0x55) 20 52 0x100D 0x100E 0x22
   pub missed_at : (meant sought_site (seeks 0x55)).desk.cpu.y ≡ 255
 
 -- ---- a sum
@@ -87,6 +90,7 @@ summed_site = record {
   first = 1;
   pointer = 0xFC;
   holds = nat_eq CAPPED;
+  open_turns = 255;
   may_read = λ place. nat_eq place 0x1000 || nat_eq place 0x101C;
   may_write = nat_eq 0x1000;
 }
@@ -112,11 +116,11 @@ sums counter a = state_with (summed_bytes counter) 0x1001 a
 -- does the same
 pub record SummedIsLowered : Type 0 where
   pub bytes : assembled_bytes summed_site.set summed_site.origin (listing_at summed_site) ≡ summed_bytes 3
-  pub kept : IsMet summed_site (sums 3 0) 11 0x101B 0x1000 8
-  pub capped : IsMet summed_site (sums 12 0) 11 0x101B 0x1000 12
+  pub kept : IsMet summed_site (sums 3 0) 11 32 0x101B 0x1000 8
+  pub capped : IsMet summed_site (sums 12 0) 11 30 0x101B 0x1000 12
   pub known : is_known summed_site.tree ≡ true
   pub agree : AgreeOnBytes summed_site (sums 3 0) (sums 3 200)
-  pub other : IsMet summed_site (sums 3 200) 11 0x101B 0x1000 8
+  pub other : IsMet summed_site (sums 3 200) 11 32 0x101B 0x1000 8
 
 -- from states in which what it may read differs, or A on which it rests, a block does other things
 pub record OthersAreNotIsolated : Type 0 where

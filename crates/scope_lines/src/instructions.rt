@@ -12,7 +12,7 @@ use cpu6502::{Mnemonic, Mode};
 use scopes::{Flag, Half, Line, Operand, Test};
 
 /// The addressing mode of an operand.
-pub(crate) fn mode_of(operand: Operand) -> Mode
+pub fn mode_of(operand: Operand) -> Mode
     ensures { result ≡ mode_of operand }
 {
     match operand {
@@ -38,8 +38,8 @@ pub fn own_size(line: &Line) -> u16
     }
 }
 
-/// That of an instruction without one: a shift works on A.
-pub(crate) fn alone_mode(mnemonic: Mnemonic) -> Mode
+/// The addressing mode of an instruction without an operand: a shift works on A.
+pub fn alone_mode(mnemonic: Mnemonic) -> Mode
     ensures { result ≡ alone_mode mnemonic }
 {
     match mnemonic {

@@ -14,6 +14,16 @@ scopes_are_worked = record {
     ends = refl;
     too_often = refl;
   };
+  open_loops = record {
+    none = refl;
+    two = refl;
+    two_leave = refl;
+    two_in = refl;
+    too_often = refl;
+    three = refl;
+    most = refl;
+    no_more = refl;
+  };
   searches = record {
     found = refl;
     found_in = refl;

@@ -14,11 +14,13 @@ pub record Desk : Type 0 where
   pub at : ℕ → ℕ
 
 -- what a block is laid out by: the address of each label, the place of the pointer's low byte in page 0, 0 to 254,
--- which conditions hold, and at which places it may read and write beside the pointer's own two
+-- which conditions hold, how many turns an open loop has, and at which places it may read and write beside the pointer's
+-- own two
 pub record Layout : Type 0 where
   pub address : ℕ → ℕ
   pub pointer : ℕ
   pub holds : ℕ → Bool
+  pub open_turns : ℕ
   pub may_read : ℕ → Bool
   pub may_write : ℕ → Bool
 

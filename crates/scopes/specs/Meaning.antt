@@ -1,6 +1,7 @@
 -- What a block means on the desk, kind by kind, and what it costs. This is the project's own language of player code.
-use Rattle.std.specs.Prelude.{ℕ, zero, suc, ◌+◌, ◌*◌, Bool, not, Option, Some, None, nat_eq, if◌then◌else◌}
+use Rattle.std.specs.Prelude.{ℕ, zero, suc, ◌+◌, Bool, not, Option, Some, None, nat_eq, if◌then◌else◌, min}
 use Rattle.cpu6502.specs.declared.mnemonic.Mnemonic.{Mnemonic}
+use Rattle.scopes.specs.declared.line.TheConstants.{OPEN}
 use Rattle.scopes.specs.declared.line.Operand.{Operand}
 use Rattle.scopes.specs.declared.line.Flag.{Flag}
 use Rattle.scopes.specs.declared.line.Flag.TheVariants.{Zero, Minus, Carry}
@@ -37,7 +38,7 @@ pub record Ran : Type 0 where
   pub desk : Desk
   pub cost : ℕ
 
--- what lines cost, instructions or cycles: an instruction without or with its operand, by the desk before it; a leave
+-- what lines cost: an instruction without or with its operand, by the desk before it; a leave
 -- or a next turn without a test; a leave whose test is met, and one whose test isn't; and the same of a next turn
 pub record Prices : Type 0 where
   pub alone : Mnemonic → Desk → ℕ
@@ -93,6 +94,10 @@ abbrev pub next_turn : Outcome → Ran → (Desk → Ran) → Ran
 next_turn Again ran turn = paid ran.cost (turn ran.desk)
 next_turn outcome ran turn = ran
 
+-- how many turns a loop has by its count, where an open loop has so many, and never more than 255
+abbrev pub turns_in : ℕ → ℕ → ℕ
+turns_in most count = if nat_eq count OPEN then min OPEN most else count
+
 -- at most so many turns; one more is stuck
 abbrev pub turns : ℕ → (Desk → Ran) → Desk → Ran
 turns zero body desk = ended Stuck desk 0
@@ -110,7 +115,8 @@ ran prices layout (ScopeTree name body) desk = scoped name (ran prices layout bo
 ran prices layout (LeaveTree name) desk = ended (Left name) desk prices.jump
 ran prices layout (LeaveIfTree name test) desk =
     if is_met test desk then ended (Left name) desk prices.left else ended Done desk prices.stayed
-ran prices layout (LoopTree count body) desk = turns count (ran prices layout body) desk
+ran prices layout (LoopTree count body) desk =
+    turns (turns_in layout.open_turns count) (ran prices layout body) desk
 ran prices layout AgainTree desk = ended Again desk prices.jump
 ran prices layout (AgainIfTree test) desk =
     if is_met test desk then ended Again desk prices.taken else ended Done desk prices.passed

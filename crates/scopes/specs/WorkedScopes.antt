@@ -2,7 +2,7 @@
 use Rattle.std.specs.Prelude.{◌≡◌, ℕ, ◌+◌, ◌%◌, Bool, true, false, not, nat_eq, List}
 use Rattle.code_runs.specs.Runs.{put}
 use Rattle.scopes.specs.declared.line.Line.{Line}
-use Rattle.scopes.specs.declared.worked.TheConstants.{HALVED, SOUGHT, LOOP_IN_LOOP, HALVED_AGAIN, LEFT_TWICE, SAME_NAME, LEFT_ALL}
+use Rattle.scopes.specs.declared.worked.TheConstants.{HALVED, HALVED_OPEN, SOUGHT, LOOP_IN_LOOP, HALVED_AGAIN, LEFT_TWICE, SAME_NAME, LEFT_ALL}
 use Rattle.scopes.specs.declared.worked.TheConstants.{RISEN, LEFT_FAR, LEFT_FAR_ON, CHOSEN, CHOSEN_APART}
 use Rattle.scopes.specs.declared.worked.TheConstants.{READ, STORED, NOT_COME_TO, DECIMAL, NOT_CLOSED, END_TOO_MANY}
 use Rattle.scopes.specs.declared.worked.TheConstants.{END_BEFORE_ITS_SCOPE}
@@ -13,12 +13,14 @@ use Rattle.scopes.specs.declared.line.Operand.TheVariants.{Register}
 use Rattle.cpu6502.specs.declared.mnemonic.Mnemonic.TheVariants.{Stx, Sty, Inc}
 use Rattle.scopes.specs.Meaning.{Outcome, Ran, Done, Left, Stuck, Prices, each_one, ran}
 
--- labels stand in their order from $1000 on; each condition holds, or none does; all places may be read and written
+-- labels stand in their order from $1000 on; each condition holds, or none does; an open loop has two turns; all places
+-- may be read and written
 abbrev pub in_order : Bool → Layout
 in_order holds = record {
   address = λ label. 0x1000 + label;
   pointer = 0xFC;
   holds = λ condition. holds;
+  open_turns = 2;
   may_read = λ place. true;
   may_write = λ place. true;
 }
@@ -62,6 +64,21 @@ pub record LoopsAreWorked : Type 0 where
   pub three_times : (halved 3).desk.cpu.a ≡ 0x1F
   pub ends : (halved 3).outcome ≡ Done
   pub too_often : (halved 4).outcome ≡ Stuck
+
+-- an open loop has the turns that the layout says, and never more than 255
+abbrev pub halved_open : ℕ → ℕ → Ran
+halved_open most y =
+    ran each_one (record (in_order false) { open_turns = most }) (tree_of HALVED_OPEN.now) (counting 0xFF y)
+
+pub record OpenLoopsAreWorked : Type 0 where
+  pub none : (halved_open 0 1).outcome ≡ Stuck
+  pub two : (halved_open 2 2).outcome ≡ Done
+  pub two_leave : (halved_open 2 2).desk.cpu.a ≡ 0x3F
+  pub two_in : (halved_open 2 2).cost ≡ 6
+  pub too_often : (halved_open 2 3).outcome ≡ Stuck
+  pub three : (halved_open 3 3).outcome ≡ Done
+  pub most : (halved_open 300 255).outcome ≡ Done
+  pub no_more : (halved_open 300 0).outcome ≡ Stuck
 
 -- the list's bytes are $40 to $43; a loop is left from within
 abbrev pub sought : ℕ → Ran
@@ -227,6 +244,7 @@ pub record PricesAreWorked : Type 0 where
 
 pub record ScopesAreWorked : Type 0 where
   pub loops : LoopsAreWorked
+  pub open_loops : OpenLoopsAreWorked
   pub searches : SearchesAreWorked
   pub turns : TurnsAreWorked
   pub scopes : ScopesAreLeft

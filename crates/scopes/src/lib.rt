@@ -13,4 +13,4 @@ mod text;
 mod worked;
 
 pub use cpu6502::Mnemonic;
-pub use line::{Flag, Half, Line, OVER, Operand, Test};
+pub use line::{Flag, Half, Line, OPEN, OVER, Operand, Test};

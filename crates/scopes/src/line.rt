@@ -57,6 +57,9 @@ pub enum Test {
 /// The name of the scope over which a far leave jumps.
 pub const OVER: u8 = 255;
 
+/// The turns of an open loop: as many as the layout says, which are at most 255.
+pub const OPEN: u8 = 255;
+
 /// A line of a block. Those that open something go on to the `End` that closes it.
 #[derive(Clone, Copy, Debug)]
 pub enum Line {
@@ -70,7 +73,7 @@ pub enum Line {
     Leave(u8),
     /// The same where the test is met. It is a branch, which reaches at most 127 bytes.
     LeaveIf(u8, Test),
-    /// Opens a loop, which has at most this many turns, 0 to 255; one more is stuck.
+    /// Opens a loop, which has at most this many turns, 0 to 254, or is open, which is 255; one more is stuck.
     Loop(u8),
     /// Begins the next turn of the innermost loop.
     Again,

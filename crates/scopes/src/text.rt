@@ -12,6 +12,9 @@ macro_rules! text {
     (@ [$($out:tt)*] turns $count:literal { $($body:tt)* } $($rest:tt)*) => {
         $crate::text!(@ [$($out)* $crate::Line::Loop($count),] $($body)* @end { $($rest)* })
     };
+    (@ [$($out:tt)*] turns $count:ident { $($body:tt)* } $($rest:tt)*) => {
+        $crate::text!(@ [$($out)* $crate::Line::Loop($count),] $($body)* @end { $($rest)* })
+    };
     (@ [$($out:tt)*] when $condition:ident { $($body:tt)* } $($rest:tt)*) => {
         $crate::text!(@ [$($out)* $crate::Line::When($condition),] $($body)* @end { $($rest)* })
     };

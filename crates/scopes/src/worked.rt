@@ -1,6 +1,6 @@
 //! Small blocks that are worked by hand.
 
-use crate::{Line, text};
+use crate::{Line, OPEN, text};
 
 /// The outer scope's name.
 pub const OUTER: u8 = 0;
@@ -29,6 +29,15 @@ pub const HALVED: &[Line] = text! {
             Dey;
             again off Zero;
         }
+    }
+};
+
+/// Halves A as often as Y says, and at least once; how often it may depends on the layout.
+pub const HALVED_OPEN: &[Line] = text! {
+    turns OPEN {
+        Lsr;
+        Dey;
+        again off Zero;
     }
 };
 

@@ -37,6 +37,7 @@ laid = record at_1000 {
       else if nat_eq label PERIODS then 0x2220
       else at_1000.address label;
   holds = λ condition. true;
+  open_turns = 255;
   may_read = λ place. true;
   may_write = λ place. true;
 }

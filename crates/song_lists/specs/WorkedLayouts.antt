@@ -70,6 +70,7 @@ laid_out dependent start marks = record {
   address = λ label. if nat_lt label VARIABLES then 0x3000 + label else start + place_among marks label;
   pointer = 0xFB;
   holds = λ condition. dependent && condition == NOTE_DEPENDENT;
+  open_turns = 255;
   may_read = λ place. true;
   may_write = λ place. true;
 }

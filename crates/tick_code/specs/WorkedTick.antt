@@ -37,6 +37,7 @@ laid = record {
   pointer = 0xFC;
   holds = λ condition. condition == SET_TEMPO || condition == VOICE_TEMPO || condition == ROW_ONCE
       || condition == ROW_COMMAND || condition == VIBRATO_DELAY || condition == NOTE_FILTER || condition == OWN_TIMER;
+  open_turns = 255;
   may_read = λ place. true;
   may_write = λ place. true;
 }

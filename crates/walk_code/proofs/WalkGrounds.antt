@@ -24,6 +24,8 @@ use Rattle.player_text.specs.declared.walk.TheConstants.{PATTERN}
 use Rattle.player_text.specs.Steps.{fetch_tree}
 use Rattle.player_desk.proofs.Laws.{around_on, Around, at_pointer}
 use Rattle.walk_code.proofs.Ways.{Way, Arrives}
+use Rattle.scopes.specs.declared.line.TheConstants.{OPEN}
+use Rattle.scopes.specs.Meaning.{turns_in}
 
 -- ---- bytes
 
@@ -89,7 +91,7 @@ pub record WalkGround (r : Reader) (order : Order) (place : ℕ) (looks : ℕ �
       0xE0 ≤ get_or order.entries i 0
   pub looks_on : (p : ℕ) → p < length order.entries → 0xD0 ≤ get_or order.entries p 0 → looks p ≡ 1 + looks (p + 1)
   pub looks_round : looks (length order.entries) ≡ 1 + looks order.restart
-  pub looks_few : (p : ℕ) → p ≤ length order.entries → looks p < 255
+  pub looks_few : (p : ℕ) → p ≤ length order.entries → looks p < turns_in r.layout.open_turns OPEN
   pub low : (n : ℕ) → Reads r (place_at r PATTERNS_LOW (played order n).pattern)
       (place_before r.layout (played order n).pattern % 256)
   pub high : (n : ℕ) → Reads r (place_at r PATTERNS_HIGH (played order n).pattern)

@@ -19,6 +19,7 @@ use Rattle.play_model.specs.declared.options.Options.{Options}
 use Rattle.code_runs.specs.Runs.{put}
 use Rattle.scopes.specs.Desk.{Desk}
 use Rattle.packed_form.specs.Unpacked.{unpacked_song}
+use Rattle.packed_form.specs.WalkCount.{walk_count, most_looks, looks_from}
 use Rattle.cpu6502.specs.declared.memory.TheConstants.{MEMORY_SIZE}
 use Rattle.player_memory.specs.declared.labels.TheConstants.{SLIDES_LOW, SLIDES_HIGH, ORDERS, VARIABLES}
 use Rattle.player_memory.specs.declared.labels.TheConstants.{FIRST_CLEARED}
@@ -41,6 +42,10 @@ use Rattle.player_memory.proofs.Laws.{InOnePiece, in_one_piece, off_piece, list_
 use Rattle.player_memory.proofs.Laws.{read_below}
 
 -- with the lines that take one of several subtunes and without them
+walk : (any : PackedSong) → walk_count (note_packed any) ≡ 2
+unfolding walk_count most_looks looks_from
+walk any = refl
+
 module _ (several : Bool) where
   -- ---- places
 
@@ -268,6 +273,7 @@ module _ (several : Bool) where
     envelopes = omega arith;
     orders = orders;
     patterns = patterns;
+    walks = omega (arith, walk any);
   }
     where
       from_listed : {label number byte : ℕ} → IsListed (layout_with several) 1 note_memory label number byte →

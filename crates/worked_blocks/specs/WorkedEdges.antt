@@ -20,6 +20,7 @@ use Rattle.worked_blocks.specs.WorkedGrounds.{HasOrderIn}
 abbrev pub with_pattern : ℕ → (ℕ → Bool) → Layout
 with_pattern first reads = record (laid false) {
   address = λ label. if nat_eq label PATTERNS then first else (laid false).address label;
+  open_turns = 255;
   may_read = reads;
 }
 

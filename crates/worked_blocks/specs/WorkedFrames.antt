@@ -68,6 +68,7 @@ reading layout from other = record layout { may_read = λ place. nat_le from pla
 abbrev pub timed_reading : Layout → ℕ → Layout
 timed_reading layout but = record layout {
   holds = λ condition. nat_eq condition TIMED;
+  open_turns = 255;
   may_read = λ place. nat_le (but + 2) place || nat_le (place + 1) but;
 }
 

@@ -68,6 +68,7 @@ layout_with several = record {
       else 0x5000 + 0x100 * (label - 512);
   pointer = 0xFC;
   holds = λ condition. not (nat_eq condition SUBTUNES) || several;
+  open_turns = 255;
   may_read = λ place. nat_le 0x1000 place && nat_lt place 0xD000;
   may_write = λ place.
       nat_le 0x1000 place && nat_lt place 0x1200 || nat_le 0xD400 place && nat_lt place 0xD419

@@ -1,0 +1,28 @@
+-- The lines that are left, and their numbers.
+use Rattle.std.proofs.Common.{length, ◌≡◌, ◌+◌, ◌*◌, ◌≤◌, ◌<◌, ◌^◌, true}
+use Rattle.scopes.specs.Trees.{opened}
+use Rattle.scope_lines.specs.Readings.{first_of, are_open}
+use Rattle.cycle_bound.specs.Rules.{nodes, asked}
+use Rattle.cycle_bound.specs.Lines.{ends_of, setting_of, short_from}
+use Rattle.cycle_bound.proofs.checks.+short.Given as goal
+
+abbrev pub decreases-line_short : goal.decreases-line_short
+decreases-line_short l = 2 * length l.rest.now + 1
+
+abbrev pub decreases-first_short : goal.decreases-first_short
+decreases-first_short l = 2 * length l.lines.now
+
+abbrev pub invariant-first_short-loop-line : goal.invariant-first_short-loop-line
+invariant-first_short-loop-line l = record {
+  is_open : are_open (opened l.left) ≡ true;
+  as_many : length l.left_numbers ≡ nodes (first_of (opened l.left));
+  room : l.at + length l.left_numbers < 2 ^ 64;
+  less : length l.left ≤ length l.lines;
+  short : short_from l.at
+      (asked (setting_of l.kept) (ends_of l.ends) l.follows (first_of (opened l.left)) l.left_numbers) l.left_numbers
+      ≡ short_from l.place
+      (asked (setting_of l.kept) (ends_of l.ends) l.follows (first_of (opened l.lines)) l.numbers) l.numbers;
+}
+
+abbrev pub decreases-first_short-loop-line : goal.decreases-first_short-loop-line
+decreases-first_short-loop-line l = length l.left
