@@ -1,0 +1,58 @@
+-- An image is a player, and so keeps the bounds of its entrances.
+use Rattle.std.proofs.Common.{◌≡◌, ℕ, Bool, true, false, min, nat_eq, if◌then◌else◌, refl, sym, subst, arith, Some, None, List}
+use Rattle.play_model.specs.declared.options.Options.{Options}
+use Rattle.packed_form.specs.declared.packed_songs.PackedSong.{PackedSong}
+use Rattle.packed_form.specs.WalkCount.{walk_count}
+use Rattle.asm6502.specs.declared.lines.Line.{Line}
+use Rattle.faithful.specs.Histories.{ImageCall, Init, Play}
+use Rattle.scopes.specs.declared.line.TheConstants.{OPEN}
+use Rattle.scopes.specs.Meaning.{turns_in}
+use Rattle.cycle_bound.specs.EntranceRules.{AdmitsCall, AdmitsEntrance}
+use Rattle.cycle_bound.proofs.Laws.{admitted_same}
+use Rattle.kept_lines.specs.Starts.{start_of}
+use Rattle.player_text.specs.Texts.{filter_tree, voice_tree, init_tree}
+use Rattle.player_code.specs.CodeLines.{play_entrance, init_entrance, cleared_of}
+use Rattle.player_image.specs.Images.{image_holds, image_places, image_count, plan_of}
+use Rattle.player_image.proofs.Laws.{images_are_players, placed_length}
+use Rattle.player_calls.specs.CallLaws.{entrance_of}
+use Rattle.player_calls.proofs.Laws.{players_keep_bounds}
+use Rattle.player_bound.specs.BoundLaws.{AdmitsOf, ImagesKeepBounds}
+
+-- an open loop has the same turns
+same_turns : (most count : ℕ) → turns_in (min most OPEN) count ≡ turns_in most count
+same_turns most count = by_count (nat_eq count OPEN)
+  where
+    by_count : (z : Bool) → (if z then min OPEN (min most OPEN) else count) ≡ (if z then min OPEN most else count)
+    by_count true = omega arith
+    by_count false = refl
+
+module _ (packed : PackedSong) (o : Options) (origin pointer : ℕ) (variables : List ℕ) (lists : List Line) where
+  play_admits : (numbers : List ℕ) → AdmitsOf packed o Play numbers →
+      AdmitsEntrance (walk_count packed) (entrance_of (plan_of packed o origin pointer variables lists) Play) numbers
+  unfolding play_entrance
+  play_admits numbers admitted =
+      admitted_same _ (record { holds = image_holds packed o; open_turns = walk_count packed }) refl
+      (same_turns (walk_count packed)) filter_tree (Some voice_tree) numbers admitted
+
+  init_admits : (k : ℕ) (numbers : List ℕ) → AdmitsOf packed o (Init k) numbers →
+      AdmitsEntrance (walk_count packed) (entrance_of (plan_of packed o origin pointer variables lists) (Init k)) numbers
+  unfolding init_entrance
+  init_admits k numbers admitted =
+      subst
+      (λ count. AdmitsCall (record { holds = image_holds packed o; open_turns = walk_count packed })
+      (init_tree (start_of o) (cleared_of count)) None numbers)
+      (sym (placed_length (image_places packed o) (image_count packed o) variables))
+      (admitted_same _ (record { holds = image_holds packed o; open_turns = walk_count packed }) refl
+      (same_turns (walk_count packed)) (init_tree (start_of o) (cleared_of (image_count packed o))) None numbers admitted)
+
+  admits : (call : ImageCall) (numbers : List ℕ) → AdmitsOf packed o call numbers →
+      AdmitsEntrance (walk_count packed) (entrance_of (plan_of packed o origin pointer variables lists) call) numbers
+  admits (Init k) numbers admitted = init_admits k numbers admitted
+  admits Play numbers admitted = play_admits numbers admitted
+
+pub images_keep_bounds : ImagesKeepBounds
+images_keep_bounds packed song o origin pointer bytes image stands for earlier call before machine number steps after lead is
+    agrees made called numbers admitted =
+    players_keep_bounds (plan_of packed o origin pointer image.its.variables image.its.lists) packed song o bytes
+    (images_are_players packed song o origin pointer bytes image stands for) earlier call before machine number steps after
+    lead is agrees made called numbers (admits packed o origin pointer image.its.variables image.its.lists call numbers admitted)
