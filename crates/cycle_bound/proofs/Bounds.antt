@@ -21,7 +21,10 @@ use Rattle.scope_lines.specs.Lines.{in_scope as around_scope, in_loop as around_
 use Rattle.scope_lines.specs.Cycles.{with_cycles, test_cycles, if_done, if_again, turn_cycles, cycles}
 use Rattle.cycle_bound.specs.Rules.{alone_most, with_most, jump_most, passed_most, taken_most, Ends, nowhere, in_scope, entry, Setting}
 use Rattle.cycle_bound.specs.Rules.{behind_first, furthest, nodes, asked, Reaches}
-use Rattle.cycle_bound.specs.Bounds.{number_at, TreesKeepBounds, BlocksKeepBounds, setting_of}
+use Rattle.cycle_bound.specs.Bounds.{number_at, TreesKeepBounds, BlocksKeepBounds, LoweredBlocksKeepBounds, setting_of}
+use Rattle.scope_lines.specs.Lines.{block_around}
+use Rattle.scope_lines.specs.Lowered.{layout_at, desk_of}
+use Rattle.scope_lines.proofs.Laws.{lowered_blocks_take}
 
 -- ---- lists of numbers
 
@@ -411,3 +414,10 @@ trees_keep_bounds layout around place ends behind NeverTree numbers desk reaches
 pub blocks_keep_bounds : BlocksKeepBounds
 blocks_keep_bounds layout around place tree numbers desk admits =
     let all = trees_keep_bounds layout around place nowhere 0 tree numbers desk admits in omega (arith, all)
+
+pub lowered_blocks_keep_bounds : LoweredBlocksKeepBounds
+lowered_blocks_keep_bounds site state numbers placed enters ends admits =
+    let takes = lowered_blocks_take site state placed enters ends in
+    let all = blocks_keep_bounds (layout_at site) (block_around site.label site.pointer site.holds) site.first site.tree
+    numbers (desk_of state) admits in
+    omega (arith, takes, all)

@@ -11,7 +11,7 @@ use Rattle.scope_calls.specs.Cycles.{voices_cycles}
 use Rattle.scopes.specs.Meaning.{each_one, ran}
 use Rattle.cycle_bound.specs.Rules.{nowhere, entry, behind_first, asked, Reaches}
 use Rattle.cycle_bound.specs.EntranceRules.{voice_most, voice_asked, first_numbers, voice_numbers}
-use Rattle.cycle_bound.specs.EntranceRules.{EntrancesKeepBounds}
+use Rattle.cycle_bound.specs.EntranceRules.{EntrancesKeepBounds, CallsKeepBounds}
 use Rattle.cycle_bound.proofs.Bounds.{first_reaches, rest_reaches, reaches_both, asked_count, blocks_keep_bounds}
 use Rattle.cycle_bound.specs.Bounds.{setting_of}
 
@@ -53,3 +53,9 @@ entrances_keep_bounds e machine number numbers admits =
     let block = blocks_keep_bounds layout around first_place own.first xs desk both.0 in
     let voices = voices_keep layout own own.voice place ys (ran each_one layout own.first desk).desk both.1 in
     omega (arith, all, block, voices)
+
+pub calls_keep_bounds : CallsKeepBounds
+calls_keep_bounds e machine number r numbers admits =
+    let takes = r.cycles_are in
+    let all = entrances_keep_bounds e machine number numbers admits in
+    omega (arith, takes, all)

@@ -10,8 +10,8 @@ use Rattle.scopes.specs.declared.line.Line.TheVariants.{Choose, Or, Never, End}
 use Rattle.scopes.specs.Trees.{Tree, ThenTree, Open, led}
 use Rattle.scope_lines.specs.Readings.{first_of, are_open}
 use Rattle.scope_lines.proofs.Laws.{simple_reads, scope_reads, loop_reads, when_reads, choose_reads}
-use Rattle.cycle_bound.specs.Rules.{Setting, Ends, nowhere, entry, nodes, asked, Reaches}
-use Rattle.cycle_bound.specs.EntranceRules.{voice_asked, call_asked, first_numbers, voice_numbers}
+use Rattle.cycle_bound.specs.Rules.{Setting, Ends, nowhere, entry, nodes, asked, Reaches, bound_by}
+use Rattle.cycle_bound.specs.EntranceRules.{AdmitsCall, voice_asked, call_asked, first_numbers, voice_numbers}
 use Rattle.cycle_bound.specs.Faults.{IsShort, voice_nodes, call_nodes}
 use Rattle.cycle_bound.specs.Lines.{short_from, head_of, rest_of, has_number}
 use Rattle.cycle_bound.proofs.Bounds.{asked_count, one_more, length_both}
@@ -267,3 +267,26 @@ short_second least more numbers others place e reaches short =
     by_side other less false is =
         let outside = ltb-false other (length numbers) is in
         behind other (other - length numbers) (omega (arith, outside)) less
+
+-- ---- where they are admitted
+
+pub reaches_length : (least numbers : List ℕ) → Reaches least numbers → length numbers ≡ length least
+reaches_length [] [] reaches = refl
+reaches_length [] (number ∷ numbers) reaches = absurd reaches
+reaches_length (l ∷ least) [] reaches = absurd reaches
+reaches_length (l ∷ least) (number ∷ numbers) reaches =
+    let more = reaches_length least numbers reaches.1 in omega (arith, more)
+
+-- those of a call are as many as it has
+pub admitted_length : (setting : Setting) (first : Tree) (voice : Option Tree) (numbers : List ℕ) →
+    AdmitsCall setting first voice numbers → length numbers ≡ call_nodes first voice
+admitted_length setting first voice numbers admitted =
+    reaches_length (call_asked setting first voice numbers) numbers admitted
+    ∙ call_count setting first voice numbers
+
+-- and the first of the least ones is the least
+pub first_least : (least numbers : List ℕ) → Reaches least numbers → bound_by least ≤ bound_by numbers
+first_least [] [] reaches = omega arith
+first_least [] (number ∷ numbers) reaches = absurd reaches
+first_least (l ∷ least) [] reaches = absurd reaches
+first_least (l ∷ least) (number ∷ numbers) reaches = reaches.0

@@ -3,8 +3,9 @@ use Rattle.std.proofs.Common.{◌≡◌, ℕ, zero, suc, ◌<◌, ◌≤◌, get
 use Rattle.scopes.specs.Trees.{Tree, tree_of}
 use Rattle.scope_lines.specs.declared.worked.TheConstants.{CAPPED, LOUD, SOUGHT, SUMMED}
 use Rattle.cycle_bound.specs.declared.worked.TheConstants.{KEPT, ONE_OF_TWO, IN_LOOPS, WRITES, LEFT_FAR, SAME_NAME}
+use Rattle.cycle_bound.specs.declared.worked.TheConstants.{LEFT_EITHER, ENDLESS}
 use Rattle.cycle_bound.specs.Rules.{nowhere, asked, Reaches, Setting}
-use Rattle.cycle_bound.specs.WorkedRules.{FaultsAreWorked, none, only, opened, OpenLoopsAreCounted, AreLeast, LoopsAreCounted, WaysOutAreCounted, BranchesAreCounted}
+use Rattle.cycle_bound.specs.WorkedRules.{SpansAreWorked, FaultsAreWorked, none, only, opened, OpenLoopsAreCounted, AreLeast, LoopsAreCounted, WaysOutAreCounted, BranchesAreCounted}
 use Rattle.cycle_bound.specs.WorkedRules.{FarWaysAreCounted, WritesAreCounted, EntrancesAreCounted, ConditionsAreCounted, NumbersAreAsWorked}
 use Rattle.scopes.specs.declared.worked.TheConstants.{HALVED_OPEN}
 
@@ -68,6 +69,9 @@ far : FarWaysAreCounted
 far = record {
   kept = least (only KEPT) (tree_of LEFT_FAR.now) _ refl;
   left_out = least none (tree_of LEFT_FAR.now) _ refl;
+  either = least (only KEPT) (tree_of LEFT_EITHER.now) _ refl;
+  other = least none (tree_of LEFT_EITHER.now) _ refl;
+  endless = least none (tree_of ENDLESS.now) _ refl;
   same_name = least none (tree_of SAME_NAME.now) _ refl;
 }
 
@@ -107,6 +111,12 @@ faults = record {
   not_small = λ told. (let e : 4 < 4 = told.1.short in omega (arith, e));
   not_bad = λ told. told.0 refl;
   shape_first = λ told. (let e : 1 ≡ 2 = told.0 in omega (arith, e));
+  by_those_behind = (refl, record { there = lit≤ tt; short = lit≤ tt; before = first_reached });
+  not_by_least = λ told. (let e : 3 < 3 = told.1.short in omega (arith, e));
+  last_of_voice = (refl, record { there = lit≤ tt; short = lit≤ tt; before = four_reached });
+  first_of_voice = (refl, record { there = lit≤ tt; short = lit≤ tt; before = three_reached });
+  no_voice = (λ e. omega (arith, e), refl);
+  voice_and_more = (λ e. omega (arith, e), refl);
   far_more = λ told. (let e : 4 ≡ 2 = told.1 in omega (arith, e));
 }
   where
@@ -114,5 +124,38 @@ faults = record {
     first zero less = lit≤ tt
     first (suc other) less = absurd (omega (arith, less))
 
+    first_reached : (other : ℕ) → other < 1 → get_or (3 ∷ 4 ∷ []) other 0 ≤ get_or (3 ∷ 3 ∷ []) other 0
+    first_reached zero less = lit≤ tt
+    first_reached (suc other) less = absurd (omega (arith, less))
+
+    four_reached : (other : ℕ) → other < 4 →
+        get_or (57 ∷ 6 ∷ 4 ∷ 6 ∷ 5 ∷ []) other 0 ≤ get_or (57 ∷ 6 ∷ 4 ∷ 7 ∷ 4 ∷ []) other 0
+    four_reached zero less = lit≤ tt
+    four_reached (suc zero) less = lit≤ tt
+    four_reached (suc (suc zero)) less = lit≤ tt
+    four_reached (suc (suc (suc zero))) less = lit≤ tt
+    four_reached (suc (suc (suc (suc other)))) less = absurd (omega (arith, less))
+
+    three_reached : (other : ℕ) → other < 3 →
+        get_or (54 ∷ 6 ∷ 4 ∷ 7 ∷ 5 ∷ []) other 0 ≤ get_or (57 ∷ 6 ∷ 4 ∷ 6 ∷ 5 ∷ []) other 0
+    three_reached zero less = lit≤ tt
+    three_reached (suc zero) less = lit≤ tt
+    three_reached (suc (suc zero)) less = lit≤ tt
+    three_reached (suc (suc (suc other))) less = absurd (omega (arith, less))
+
+spans : SpansAreWorked
+spans = record { volume = refl; voices = refl; loops = refl }
+
 pub numbers_are_as_worked : NumbersAreAsWorked
-numbers_are_as_worked = record { faults = faults; far = far; writes = writes; entrances = entrances; loops = loops; open_loops = open_loops; ways_out = ways_out; branches = branches; conditions = conditions }
+numbers_are_as_worked = record {
+  spans = spans;
+  faults = faults;
+  far = far;
+  writes = writes;
+  entrances = entrances;
+  loops = loops;
+  open_loops = open_loops;
+  ways_out = ways_out;
+  branches = branches;
+  conditions = conditions;
+}

@@ -1,11 +1,13 @@
 -- What admitted numbers say of a block: wherever its lines stand, and whatever is in memory and in the registers, they take
 -- at most so many clock cycles. This is the project's own.
-use Rattle.std.specs.Prelude.{ℕ, ◌+◌, ◌≤◌, List}
+use Rattle.std.specs.Prelude.{◌≡◌, ℕ, ◌+◌, ◌≤◌, List}
+use Rattle.code_runs.specs.Runs.{State, cycles_from}
 use Rattle.scopes.specs.Desk.{Desk, Layout}
 use Rattle.scopes.specs.Trees.{Tree}
 use Rattle.scopes.specs.Meaning.{Outcome, Done, Left, Again, Stuck, each_one, ran}
 use Rattle.scope_lines.specs.Lines.{Around}
 use Rattle.scope_lines.specs.Cycles.{cycles}
+use Rattle.scope_lines.specs.Lowered.{Site, layout_at, IsWellPlaced, Enters, meant}
 use Rattle.cycle_bound.specs.Rules.{Ends, entry, asked, Reaches, Admits, bound_by, Setting}
 
 -- what a layout says of it
@@ -27,8 +29,16 @@ TreesKeepBounds =
     cycles layout around place tree desk + number_at ends behind (ran each_one layout tree desk).outcome
     ≤ entry numbers behind
 
--- so a block takes at most the number at its first line
+-- so what is counted of a block is at most the number at its first line
 abbrev pub BlocksKeepBounds : Type 0
 BlocksKeepBounds =
     (layout : Layout) (around : Around) (place : ℕ) (tree : Tree) (numbers : List ℕ) (desk : Desk) →
     Admits (setting_of layout) tree numbers → cycles layout around place tree desk ≤ bound_by numbers
+
+-- And where it comes to its end from a state that enters it in a listing, so are the clock cycles of its lines' steps. A
+-- block that goes on for ever, as a loop of one turn that says `again`, has numbers too.
+abbrev pub LoweredBlocksKeepBounds : Type 0
+LoweredBlocksKeepBounds =
+    (site : Site) (state : State) (numbers : List ℕ) → IsWellPlaced site → Enters site state →
+    (meant site state).outcome ≡ Done → Admits (setting_of (layout_at site)) site.tree numbers →
+    cycles_from (meant site state).cost state ≤ bound_by numbers

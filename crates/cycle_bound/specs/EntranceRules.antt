@@ -9,6 +9,8 @@ use Rattle.scopes.specs.Trees.{Tree}
 use Rattle.scope_calls.specs.Entrances.{Entrance}
 use Rattle.scope_calls.specs.Listed.{Listed}
 use Rattle.scope_calls.specs.Cycles.{meant_cycles}
+use Rattle.scope_calls.specs.EntranceLaws.{Returns}
+use Rattle.cpu6502.specs.Call.{call_cycles}
 use Rattle.cycle_bound.specs.Rules.{nowhere, entry, behind_first, nodes, asked, Reaches, bound_by, Setting}
 
 -- ---- the voices
@@ -51,12 +53,19 @@ setting_at open_turns e = record { holds = e.holds; open_turns = open_turns }
 abbrev pub AdmitsEntrance : ℕ → Entrance → List ℕ → Type 0
 AdmitsEntrance open_turns e numbers = AdmitsCall (setting_at open_turns e) e.first e.voice numbers
 
--- the instructions of a call beside those of its blocks and of what calls the voices
+-- the cycles of a call's instructions beside those of its blocks and of what calls the voices
 abbrev pub around_cycles : ℕ
 around_cycles = cycles_of Jmp Absolute + cycles_of Cld Implied + cycles_of Rts Implied
 
--- a call takes at most the entrance's number and these, whatever is in memory and in the registers
+-- what is counted of a call is at most the entrance's number and these, whatever is in memory and in the registers
 abbrev pub EntrancesKeepBounds : Type 0
 EntrancesKeepBounds =
     (e : Listed) (machine : Machine) (number : ℕ) (numbers : List ℕ) → AdmitsEntrance e.open_turns e.entrance numbers →
     meant_cycles e machine number ≤ bound_by numbers + around_cycles
+
+-- and so are the clock cycles of a call that returns
+abbrev pub CallsKeepBounds : Type 0
+CallsKeepBounds =
+    (e : Listed) (machine : Machine) (number : ℕ) (r : Returns e machine number) (numbers : List ℕ) →
+    AdmitsEntrance e.open_turns e.entrance numbers →
+    call_cycles machine e.entry number r.steps ≤ bound_by numbers + around_cycles

@@ -18,8 +18,8 @@ ends_of Nowhere = nowhere
 ends_of (Inside' name number p outer) = in_scope name number (ends_of outer)
 
 -- what numbers rest on
-abbrev pub setting_of : Kept → Setting
-setting_of kept = record { holds = holds_in kept.conditions.0; open_turns = kept.open_turns }
+abbrev pub kept_setting : Kept → Setting
+kept_setting kept = record { holds = holds_in kept.conditions.0; open_turns = kept.open_turns }
 
 -- what the number of a line that opens nothing must reach
 abbrev pub line_asked : Ends → ℕ → Line → ℕ
@@ -77,7 +77,7 @@ has_number Or = false
 has_number End = false
 has_number line = true
 
--- the first place, counted from one on, at which numbers don't reach what is asked
+-- the first place, counted from a given one on, at which numbers don't reach what is asked
 abbrev pub short_from : ℕ → List ℕ → List ℕ → Option ℕ
 short_from place (least ∷ more) (number ∷ numbers) =
     if nat_lt number least then Some place else short_from (place + 1) more numbers

@@ -8,10 +8,12 @@ use Rattle.cycle_bound.specs.Faults.{IsChecked}
 use Rattle.scopes.specs.Trees.{Tree, tree_of}
 use Rattle.scope_lines.specs.declared.worked.TheConstants.{CAPPED, LOUD, SOUGHT, SUMMED}
 use Rattle.cycle_bound.specs.declared.worked.TheConstants.{KEPT, ONE_OF_TWO, IN_LOOPS, WRITES, LEFT_FAR, SAME_NAME}
+use Rattle.cycle_bound.specs.declared.worked.TheConstants.{LEFT_EITHER, ENDLESS}
 use Rattle.scope_calls.specs.WorkedEntrances.{volume_entrance, voices_entrance}
 use Rattle.cycle_bound.specs.Rules.{nowhere, asked, Admits, Setting}
 use Rattle.cycle_bound.specs.EntranceRules.{calling_most, around_cycles, AdmitsEntrance, setting_at}
 use Rattle.cycle_bound.specs.Least.{least_all}
+use Rattle.cycle_bound.specs.Spans.{span, call_span}
 use Rattle.scope_calls.specs.Entrances.{Entrance}
 use Rattle.scopes.specs.declared.worked.TheConstants.{HALVED_OPEN}
 
@@ -59,11 +61,15 @@ pub record WaysOutAreCounted : Type 0 where
   pub inner_once : ¬ in_loops (55 ∷ 55 ∷ 16 ∷ 12 ∷ 8 ∷ 6 ∷ 4 ∷ 4 ∷ 7 ∷ 5 ∷ 3 ∷ [])
 
 -- A loop whose own end is never come to, with 4 cycles behind the outer scope and 6 behind the inner one: it comes out at
--- the greater number of those that it may be left for, of what is kept; and a scope in it is none of those around it.
+-- the greater number of those that it may be left for, of what is kept; and a scope in it is none of those around it. What
+-- comes to no end has numbers, too.
 pub record FarWaysAreCounted : Type 0 where
   pub kept : AreLeast (only KEPT) (tree_of LEFT_FAR.now)
       (20 ∷ 20 ∷ 20 ∷ 7 ∷ 5 ∷ 5 ∷ 3 ∷ 0 ∷ 6 ∷ 4 ∷ 2 ∷ [])
   pub left_out : AreLeast none (tree_of LEFT_FAR.now) (14 ∷ 14 ∷ 14 ∷ 5 ∷ 3 ∷ 5 ∷ 3 ∷ 0 ∷ 6 ∷ 4 ∷ 2 ∷ [])
+  pub either : AreLeast (only KEPT) (tree_of LEFT_EITHER.now) (16 ∷ 16 ∷ 16 ∷ 5 ∷ 5 ∷ 5 ∷ 3 ∷ 0 ∷ 6 ∷ 4 ∷ 2 ∷ [])
+  pub other : AreLeast none (tree_of LEFT_EITHER.now) (14 ∷ 14 ∷ 14 ∷ 5 ∷ 5 ∷ 5 ∷ 3 ∷ 0 ∷ 6 ∷ 4 ∷ 2 ∷ [])
+  pub endless : AreLeast none (tree_of ENDLESS.now) (3 ∷ 3 ∷ [])
   pub same_name : AreLeast none (tree_of SAME_NAME.now) (14 ∷ 14 ∷ 7 ∷ 7 ∷ 3 ∷ 0 ∷ 2 ∷ [])
 
 -- An open loop counts as often as the setting says, and at most 255 times; where it has no turn nothing but its way out is
@@ -144,7 +150,12 @@ volume_told numbers told = IsChecked (setting_at 0 volume_entrance.entrance) vol
 abbrev pub fault : CertKind → ℕ → Result ℕ CertFault
 fault kind place = Err (record { place = place; kind = kind })
 
--- the first fault is told, and one in the number of lines before one in a number
+-- and of the one with voices, whose least numbers are 57, 6, 4, 7 and 5
+abbrev pub voices_told : List ℕ → Result ℕ CertFault → Type 0
+voices_told numbers told = IsChecked (setting_at 0 voices_entrance.entrance) voices_entrance.entrance.first
+    voices_entrance.entrance.voice numbers told
+
+-- A number is too small by those behind it, be these as they may. The first fault is told, and one in the number of lines before one in a number
 pub record FaultsAreWorked : Type 0 where
   pub least : volume_told (4 ∷ 4 ∷ []) (Ok 4)
   pub raised : volume_told (9 ∷ 4 ∷ []) (Ok 9)
@@ -159,9 +170,23 @@ pub record FaultsAreWorked : Type 0 where
   pub not_small : ¬ volume_told (4 ∷ 4 ∷ []) (fault TooSmall 0)
   pub not_bad : ¬ volume_told (4 ∷ 4 ∷ []) (fault BadShape 2)
   pub shape_first : ¬ volume_told (3 ∷ []) (fault TooSmall 0)
+  pub by_those_behind : volume_told (3 ∷ 3 ∷ []) (fault TooSmall 1)
+  pub not_by_least : ¬ volume_told (3 ∷ 3 ∷ []) (fault TooSmall 0)
+  pub last_of_voice : voices_told (57 ∷ 6 ∷ 4 ∷ 7 ∷ 4 ∷ []) (fault TooSmall 4)
+  pub first_of_voice : voices_told (57 ∷ 6 ∷ 4 ∷ 6 ∷ 5 ∷ []) (fault TooSmall 3)
+  pub no_voice : voices_told (57 ∷ 6 ∷ 4 ∷ []) (fault BadShape 3)
+  pub voice_and_more : voices_told (57 ∷ 6 ∷ 4 ∷ 7 ∷ 5 ∷ 0 ∷ []) (fault BadShape 5)
   pub far_more : ¬ volume_told (4 ∷ 4 ∷ 0 ∷ 0 ∷ []) (fault BadShape 4)
 
+-- 8 a line, the voices' three times, with 30; and a loop's once more than its turns: 4 times
+-- 2 and 3 times 3 lines, and 3 behind them
+pub record SpansAreWorked : Type 0 where
+  pub volume : call_span volume_entrance.entrance.first volume_entrance.entrance.voice ≡ 8
+  pub voices : call_span voices_entrance.entrance.first voices_entrance.entrance.voice ≡ 94
+  pub loops : span (tree_of IN_LOOPS.now) ≡ 376
+
 pub record NumbersAreAsWorked : Type 0 where
+  pub spans : SpansAreWorked
   pub faults : FaultsAreWorked
   pub far : FarWaysAreCounted
   pub writes : WritesAreCounted

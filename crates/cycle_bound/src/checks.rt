@@ -8,7 +8,7 @@ ghost use Rattle.scope_calls.specs.Written.{is_voice};
 ghost use Rattle.cycle_bound.specs.Rules.{entry, nodes, asked, nowhere};
 ghost use Rattle.cycle_bound.specs.EntranceRules.{voice_most, voice_asked, call_asked};
 ghost use Rattle.cycle_bound.specs.Faults.{IsChecked, voice_nodes, call_nodes};
-ghost use Rattle.cycle_bound.specs.Lines.{ends_of, setting_of, head_of, rest_of, has_number, short_from};
+ghost use Rattle.cycle_bound.specs.Lines.{ends_of, kept_setting, head_of, rest_of, has_number, short_from};
 
 use crate::lines::{CALLING, Ends, Kept, count, further, furthest, line_asked, turns};
 use scope_lines::Line;
@@ -16,7 +16,7 @@ use scope_lines::Line;
 /// What is wrong with numbers.
 #[derive(Clone, Copy, Debug, PartialEq, Eq)]
 pub enum CertKind {
-    /// They aren't as many as the lines that have one.
+    /// They aren't as many as they must be.
     BadShape,
     /// One is less than its rule asks.
     TooSmall,
@@ -79,7 +79,7 @@ fn line_short(
     requires number { has_number line.now ≡ true }
     requires as_many { length numbers.now ≡ nodes (head_of (first_of (led line.now (opened rest.now)))) }
     requires room { place + length numbers.now < 2 ^ 64 }
-    ensures { result ≡ short_from place (asked (setting_of kept) (ends_of ends.now) next
+    ensures { result ≡ short_from place (asked (kept_setting kept) (ends_of ends.now) next
         (head_of (first_of (led line.now (opened rest.now)))) numbers.now) numbers.now }
 {
     let Some((number, inner)) = numbers.split_first() else {
@@ -153,7 +153,7 @@ fn first_short(
     requires is_open { are_open (opened lines.now) ≡ true }
     requires as_many { length numbers.now ≡ nodes (first_of (opened lines.now)) }
     requires room { place + length numbers.now < 2 ^ 64 }
-    ensures { result ≡ short_from place (asked (setting_of kept) (ends_of ends.now) follows
+    ensures { result ≡ short_from place (asked (kept_setting kept) (ends_of ends.now) follows
         (first_of (opened lines.now)) numbers.now) numbers.now }
 {
     let mut left = lines;
@@ -190,7 +190,7 @@ fn block_short(lines: &[Line], kept: Kept, numbers: &[u64], place: usize) -> Opt
     requires block { is_block lines.now ≡ true }
     requires as_many { length numbers.now ≡ nodes (tree_of lines.now) }
     requires room { place + length numbers.now < 2 ^ 64 }
-    ensures { result ≡ short_from place (asked (setting_of kept) nowhere 0 (tree_of lines.now) numbers.now) numbers.now }
+    ensures { result ≡ short_from place (asked (kept_setting kept) nowhere 0 (tree_of lines.now) numbers.now) numbers.now }
 {
     first_short(lines, kept, &Ends::Nowhere, 0, numbers, place)
 }
@@ -224,7 +224,7 @@ fn voices_short(voice: Option<&[Line]>, kept: Kept, numbers: &[u64], place: usiz
     requires as_many { length numbers.now ≡ voice_nodes (option_map tree_of (option_copied voice)) }
     requires room { place + length numbers.now < 2 ^ 64 }
     ensures { result ≡ short_from place
-        (voice_asked (setting_of kept) (option_map tree_of (option_copied voice.entry)) numbers.now) numbers.now }
+        (voice_asked (kept_setting kept) (option_map tree_of (option_copied voice.entry)) numbers.now) numbers.now }
 {
     match voice {
         None => None,
@@ -238,7 +238,7 @@ fn call_short(first: &[Line], voice: Option<&[Line]>, kept: Kept, numbers: &[u64
     requires voice { is_voice (option_copied voice) ≡ true }
     requires as_many { length numbers.now ≡ call_nodes (tree_of first.now) (option_map tree_of (option_copied voice)) }
     ensures { result ≡ short_from 0
-        (call_asked (setting_of kept) (tree_of first.now) (option_map tree_of (option_copied voice.entry)) numbers.now)
+        (call_asked (kept_setting kept) (tree_of first.now) (option_map tree_of (option_copied voice.entry)) numbers.now)
         numbers.now }
 {
     let (number, inner) = numbers.split_first()?;
@@ -276,7 +276,7 @@ pub fn check(
 ) -> Result<u64, CertFault>
     requires first { is_block first.now ≡ true }
     requires voice { is_voice (option_copied voice) ≡ true }
-    ensures { IsChecked (setting_of kept) (tree_of first.now) (option_map tree_of (option_copied voice.entry)) numbers.now
+    ensures { IsChecked (kept_setting kept) (tree_of first.now) (option_map tree_of (option_copied voice.entry)) numbers.now
         result }
 {
     let count = call_count(first, voice);

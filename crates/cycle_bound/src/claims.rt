@@ -1,21 +1,24 @@
 //! Facts about the definitions, each the contract of a function that does nothing.
 
-ghost use Rattle.cycle_bound.specs.Bounds.{BlocksKeepBounds, TreesKeepBounds};
-ghost use Rattle.cycle_bound.specs.EntranceRules.{EntrancesKeepBounds};
+ghost use Rattle.cycle_bound.specs.Bounds.{BlocksKeepBounds, LoweredBlocksKeepBounds, TreesKeepBounds};
+ghost use Rattle.cycle_bound.specs.EntranceRules.{CallsKeepBounds, EntrancesKeepBounds};
 ghost use Rattle.cycle_bound.specs.Least.{LeastAreLeast};
 ghost use Rattle.cycle_bound.specs.Spans.{LeastFit};
 ghost use Rattle.cycle_bound.specs.WorkedRules.{NumbersAreAsWorked};
 
-/// Numbers that the rules admit bound the clock cycles of a block's lines, wherever they stand and from any desk.
-#[tactic(auto, using(crate::proofs::Bounds::trees_keep_bounds, crate::proofs::Bounds::blocks_keep_bounds))]
+/// Numbers that the rules admit bound what is counted of a block's lines, wherever they stand and from any desk; and the
+/// clock cycles of their steps, where the block comes to its end.
 pub fn bounds_are_kept()
     ensures trees { TreesKeepBounds }
     ensures blocks { BlocksKeepBounds }
+    ensures lowered { LoweredBlocksKeepBounds }
 {}
 
-/// Numbers that the rules admit for an entrance and its blocks bound the clock cycles of each call.
+/// Numbers that the rules admit for an entrance and its blocks bound what is counted of a call, and the clock cycles of each
+/// call that returns.
 pub fn entrances_keep_bounds()
-    ensures { EntrancesKeepBounds }
+    ensures entrances { EntrancesKeepBounds }
+    ensures calls { CallsKeepBounds }
 {}
 
 /// Each entrance has least numbers: they are admitted, and all others that are admitted reach them.

@@ -11,7 +11,7 @@ ghost use Rattle.cycle_bound.specs.Rules.{entry};
 ghost use Rattle.cycle_bound.specs.Least.{least_of, least_voice, least_all, Fit};
 ghost use Rattle.cycle_bound.specs.EntranceRules.{voice_most};
 ghost use Rattle.cycle_bound.specs.Lines.{written, capped};
-ghost use Rattle.cycle_bound.specs.Lines.{ends_of, setting_of};
+ghost use Rattle.cycle_bound.specs.Lines.{ends_of, kept_setting};
 
 use crate::lines::{CALLING, Ends, Kept, count, further, furthest, line_asked, turns};
 use base::{Items, NoMemory};
@@ -39,9 +39,9 @@ fn push_least<'a>(
 ) -> Result<(u64, &'a [Line]), NoMemory>
     requires is_open { are_open (opened lines.now) ≡ true }
     ensures numbers { OnOk result (numbers.new
-        ≡ numbers.old ++ reverse (written (setting_of kept) (ends_of ends.now) follows (first_of (opened lines.now)))) }
+        ≡ numbers.old ++ reverse (written (kept_setting kept) (ends_of ends.now) follows (first_of (opened lines.now)))) }
     ensures first { IfOk result (λ r. r.0
-        ≡ entry (written (setting_of kept) (ends_of ends.now) follows (first_of (opened lines.now))) follows) }
+        ≡ entry (written (kept_setting kept) (ends_of ends.now) follows (first_of (opened lines.now))) follows) }
     ensures left { IfOk result (λ r. opened r.1.now ≡ behind_of (opened lines.now)) }
     ensures shorter { IfOk result (λ r. length r.1.now ≤ length lines.now) }
 {
@@ -101,10 +101,10 @@ fn push_least<'a>(
 /// Pushes the least numbers of a block, the last one first, and answers the first of them.
 fn push_block(numbers: &mut Numbers, lines: &[Line], kept: Kept) -> Result<u64, NoMemory>
     requires block { is_block lines.now ≡ true }
-    requires fit { Fit (least_of (setting_of kept) (tree_of lines.now)) }
+    requires fit { Fit (least_of (kept_setting kept) (tree_of lines.now)) }
     ensures numbers { OnOk result (numbers.new
-        ≡ numbers.old ++ reverse (least_of (setting_of kept) (tree_of lines.now))) }
-    ensures first { IfOk result (λ number. number ≡ entry (least_of (setting_of kept) (tree_of lines.now)) 0) }
+        ≡ numbers.old ++ reverse (least_of (kept_setting kept) (tree_of lines.now))) }
+    ensures first { IfOk result (λ number. number ≡ entry (least_of (kept_setting kept) (tree_of lines.now)) 0) }
 {
     let (number, _) = push_least(numbers, lines, kept, &Ends::Nowhere, 0)?;
     Ok(number)
@@ -113,11 +113,11 @@ fn push_block(numbers: &mut Numbers, lines: &[Line], kept: Kept) -> Result<u64, 
 /// Pushes those of the voices' block, if there is one, and answers what it takes for all voices, with the code that calls it.
 fn push_voice(numbers: &mut Numbers, voice: Option<&[Line]>, kept: Kept) -> Result<u128, NoMemory>
     requires voice { is_voice (option_copied voice) ≡ true }
-    requires fit { Fit (least_voice (setting_of kept) (option_map tree_of (option_copied voice))) }
+    requires fit { Fit (least_voice (kept_setting kept) (option_map tree_of (option_copied voice))) }
     ensures numbers { OnOk result (numbers.new
-        ≡ numbers.old ++ reverse (least_voice (setting_of kept) (option_map tree_of (option_copied voice.entry)))) }
+        ≡ numbers.old ++ reverse (least_voice (kept_setting kept) (option_map tree_of (option_copied voice.entry)))) }
     ensures most { IfOk result (λ most. most ≡ voice_most (option_map tree_of (option_copied voice.entry))
-        (least_voice (setting_of kept) (option_map tree_of (option_copied voice.entry)))) }
+        (least_voice (kept_setting kept) (option_map tree_of (option_copied voice.entry)))) }
     ensures few { IfOk result (λ most. most < 2 ^ 70) }
 {
     match voice {
@@ -143,9 +143,9 @@ pub fn make(
 ) -> Result<Numbers, NoMemory>
     requires first { is_block first.now ≡ true }
     requires voice { is_voice (option_copied voice) ≡ true }
-    requires fit { Fit (least_all (setting_of kept) (tree_of first.now) (option_map tree_of (option_copied voice))) }
+    requires fit { Fit (least_all (kept_setting kept) (tree_of first.now) (option_map tree_of (option_copied voice))) }
     ensures { IfOk result (λ numbers. numbers
-        ≡ least_all (setting_of kept) (tree_of first.now) (option_map tree_of (option_copied voice.entry))) }
+        ≡ least_all (kept_setting kept) (tree_of first.now) (option_map tree_of (option_copied voice.entry))) }
 {
     let mut numbers = Numbers::new(alloc);
     let voices = push_voice(&mut numbers, voice, kept)?;

@@ -84,3 +84,30 @@ pub const SAME_NAME: &[Line] = text! {
     }
     Lda Number 1;
 };
+
+/// The same loop as one that is left by one of two ways, of which one is kept.
+pub const LEFT_EITHER: &[Line] = text! {
+    scope OUT {
+        scope IN {
+            turns 2 {
+                choose KEPT {
+                    leave IN on Carry;
+                } or {
+                    leave OUT on Carry;
+                }
+                again;
+            }
+            never;
+        }
+        Lda Number 1;
+    }
+    Inx;
+    Inx;
+};
+
+/// A loop that goes on for ever, and is stuck after its turn.
+pub const ENDLESS: &[Line] = text! {
+    turns 1 {
+        again;
+    }
+};

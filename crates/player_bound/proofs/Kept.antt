@@ -2,7 +2,7 @@
 use Rattle.std.proofs.Common.{◌≡◌, ℕ, Bool, true, false, min, nat_eq, if◌then◌else◌, refl, sym, subst, arith, Some, None, List}
 use Rattle.play_model.specs.declared.options.Options.{Options}
 use Rattle.packed_form.specs.declared.packed_songs.PackedSong.{PackedSong}
-use Rattle.packed_form.specs.WalkCount.{walk_count}
+use Rattle.packed_form.specs.WalkCount.{walk_count, most_looks, looks_from}
 use Rattle.asm6502.specs.declared.lines.Line.{Line}
 use Rattle.faithful.specs.Histories.{ImageCall, Init, Play}
 use Rattle.scopes.specs.declared.line.TheConstants.{OPEN}
@@ -16,7 +16,11 @@ use Rattle.player_image.specs.Images.{image_holds, image_places, image_count, pl
 use Rattle.player_image.proofs.Laws.{images_are_players, placed_length}
 use Rattle.player_calls.specs.CallLaws.{entrance_of}
 use Rattle.player_calls.proofs.Laws.{players_keep_bounds}
-use Rattle.player_bound.specs.BoundLaws.{AdmitsOf, ImagesKeepBounds}
+use Rattle.player_bound.specs.BoundLaws.{AdmitsOf, bound_of, CheckedBoundsAreKept, ImagesKeepBounds, TurnsAreItsWalks}
+use Rattle.player_bound.specs.declared.bounds.CallBounds.{CallBounds}
+use Rattle.player_bound.specs.Answers.{AreBounds}
+use Rattle.player_bound.specs.Programs.{program_blocks, init_numbers, play_numbers}
+use Rattle.cycle_bound.specs.Rules.{bound_by}
 
 -- an open loop has the same turns
 same_turns : (most count : ℕ) → turns_in (min most OPEN) count ≡ turns_in most count
@@ -50,9 +54,35 @@ module _ (packed : PackedSong) (o : Options) (origin pointer : ℕ) (variables :
   admits (Init k) numbers admitted = init_admits k numbers admitted
   admits Play numbers admitted = play_admits numbers admitted
 
+-- numbers of the entrance of a call, with this first one
+record FirstOf (packed : PackedSong) (o : Options) (call : ImageCall) (bounds : CallBounds) : Type 0 where
+  numbers : List ℕ
+  admitted : AdmitsOf packed o call numbers
+  first : bound_of bounds call ≡ bound_by numbers
+
 pub images_keep_bounds : ImagesKeepBounds
 images_keep_bounds packed song o origin pointer bytes image stands for earlier call before machine number steps after lead is
     agrees made called numbers admitted =
     players_keep_bounds (plan_of packed o origin pointer image.its.variables image.its.lists) packed song o bytes
     (images_are_players packed song o origin pointer bytes image stands for) earlier call before machine number steps after
     lead is agrees made called numbers (admits packed o origin pointer image.its.variables image.its.lists call numbers admitted)
+
+admitted_bound : (packed : PackedSong) (o : Options) (call : ImageCall) (numbers : List ℕ) (bounds : CallBounds) →
+    AreBounds (program_blocks packed o) numbers bounds → FirstOf packed o call bounds
+admitted_bound packed o (Init k) numbers bounds are =
+    record { numbers = init_numbers (program_blocks packed o) numbers; admitted = are.init_admitted; first = are.init }
+admitted_bound packed o Play numbers bounds are =
+    record { numbers = play_numbers (program_blocks packed o) numbers; admitted = are.play_admitted; first = are.play }
+
+pub checked_bounds_are_kept : CheckedBoundsAreKept
+checked_bounds_are_kept packed song o origin pointer bytes image stands for numbers bounds told earlier call before machine
+    number steps after lead is agrees made called =
+    let first = admitted_bound packed o call numbers bounds told in
+    let kept = images_keep_bounds packed song o origin pointer bytes image stands for earlier call before machine number
+    steps after lead is agrees made called first.numbers first.admitted in
+    let same = first.first in
+    omega (arith, kept, same)
+
+pub turns_are_its_walks : TurnsAreItsWalks
+unfolding walk_count most_looks looks_from
+turns_are_its_walks o = refl

@@ -10,7 +10,7 @@ use Rattle.cycle_bound.specs.Rules.{Setting}
 use Rattle.cycle_bound.specs.EntranceRules.{AdmitsCall, call_asked}
 use Rattle.cycle_bound.specs.Least.{least_all}
 use Rattle.cycle_bound.specs.Faults.{call_nodes}
-use Rattle.cycle_bound.specs.Lines.{setting_of}
+use Rattle.cycle_bound.specs.Lines.{kept_setting}
 use Rattle.kept_lines.specs.Starts.{start_of}
 use Rattle.player_text.specs.Texts.{filter_tree, voice_tree, init_tree}
 use Rattle.player_code.specs.CodeLines.{cleared_of}
@@ -40,7 +40,7 @@ blocks_of program = record {
   init = tree_of program.init;
   first = tree_of program.filter;
   voice = tree_of program.voice;
-  setting = setting_of program.kept;
+  setting = kept_setting program.kept;
 }
 
 pub record AreBlocks (program : Program) : Type 0 where

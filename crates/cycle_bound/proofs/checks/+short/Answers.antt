@@ -3,20 +3,20 @@ use Rattle.std.proofs.Common.{rules, ◌+◌, take, drop}
 use Rattle.scopes.specs.Trees.{opened}
 use Rattle.scope_lines.specs.Readings.{first_of}
 use Rattle.cycle_bound.specs.Rules.{asked, nodes}
-use Rattle.cycle_bound.specs.Lines.{ends_of, setting_of}
+use Rattle.cycle_bound.specs.Lines.{ends_of, kept_setting}
 use Rattle.cycle_bound.proofs.Bounds.{asked_count}
 use Rattle.cycle_bound.proofs.Shorts.{short_both, short_on}
 use Rattle.cycle_bound.proofs.checks.+short.Goals as goal
 
 pub first_short-returns-in-Some-line_short : goal.first_short-returns-in-Some-line_short
 first_short-returns-in-Some-line_short t c =
-    let on = short_on (setting_of c.args.kept) (ends_of c.args.ends.now) c.args.follows c.in-Some.line.now
+    let on = short_on (kept_setting c.args.kept) (ends_of c.args.ends.now) c.args.follows c.in-Some.line.now
     (opened c.in-Some.rest.now) c.loop-line.left_numbers.now c.loop-line.at in
     search (rules, on)
 
 pub first_short-loop-line-preserved : goal.first_short-loop-line-preserved
 first_short-loop-line-preserved t c =
-    let on = short_on (setting_of c.args.kept) (ends_of c.args.ends.now) c.args.follows c.in-Some.line.now
+    let on = short_on (kept_setting c.args.kept) (ends_of c.args.ends.now) c.args.follows c.in-Some.line.now
     (opened c.in-Some.rest.now) c.loop-line.left_numbers.now c.loop-line.at in
     search (rules, on)
 
@@ -26,7 +26,7 @@ line_short-returns-else-number-first_number-2 t c =
     let others = first_of (opened c.count-count.result.1.now) in
     let inner = c.in-Some.inner.now in
     let both = short_both (c.args.place + 1) (nodes these)
-    (asked (setting_of c.args.kept) (ends_of c.args.ends.now) c.args.next these (take (nodes these) inner))
-    (asked (setting_of c.args.kept) (ends_of c.args.ends.now) c.args.next others (drop (nodes these) inner)) inner
-    (asked_count (setting_of c.args.kept) (ends_of c.args.ends.now) c.args.next these (take (nodes these) inner)) in
+    (asked (kept_setting c.args.kept) (ends_of c.args.ends.now) c.args.next these (take (nodes these) inner))
+    (asked (kept_setting c.args.kept) (ends_of c.args.ends.now) c.args.next others (drop (nodes these) inner)) inner
+    (asked_count (kept_setting c.args.kept) (ends_of c.args.ends.now) c.args.next these (take (nodes these) inner)) in
     search (rules, both)

@@ -3,7 +3,7 @@ use Rattle.std.proofs.Common.{length, ◌≡◌, ◌+◌, ◌*◌, ◌≤◌, �
 use Rattle.scopes.specs.Trees.{opened}
 use Rattle.scope_lines.specs.Readings.{first_of, are_open}
 use Rattle.cycle_bound.specs.Rules.{nodes, asked}
-use Rattle.cycle_bound.specs.Lines.{ends_of, setting_of, short_from}
+use Rattle.cycle_bound.specs.Lines.{ends_of, kept_setting, short_from}
 use Rattle.cycle_bound.proofs.checks.+short.Given as goal
 
 abbrev pub decreases-line_short : goal.decreases-line_short
@@ -19,9 +19,9 @@ invariant-first_short-loop-line l = record {
   room : l.at + length l.left_numbers < 2 ^ 64;
   less : length l.left ≤ length l.lines;
   short : short_from l.at
-      (asked (setting_of l.kept) (ends_of l.ends) l.follows (first_of (opened l.left)) l.left_numbers) l.left_numbers
+      (asked (kept_setting l.kept) (ends_of l.ends) l.follows (first_of (opened l.left)) l.left_numbers) l.left_numbers
       ≡ short_from l.place
-      (asked (setting_of l.kept) (ends_of l.ends) l.follows (first_of (opened l.lines)) l.numbers) l.numbers;
+      (asked (kept_setting l.kept) (ends_of l.ends) l.follows (first_of (opened l.lines)) l.numbers) l.numbers;
 }
 
 abbrev pub decreases-first_short-loop-line : goal.decreases-first_short-loop-line

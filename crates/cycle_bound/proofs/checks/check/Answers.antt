@@ -4,7 +4,7 @@ use Rattle.std.specs.Option.{option_copied, option_map}
 use Rattle.scopes.specs.Trees.{tree_of}
 use Rattle.cycle_bound.specs.EntranceRules.{call_asked}
 use Rattle.cycle_bound.specs.Faults.{call_nodes}
-use Rattle.cycle_bound.specs.Lines.{setting_of}
+use Rattle.cycle_bound.specs.Lines.{kept_setting}
 use Rattle.cycle_bound.proofs.Shorts.{call_count, first_short_is, none_reaches}
 use Rattle.cycle_bound.proofs.checks.check.Goals as goal
 
@@ -14,8 +14,8 @@ returns-in-Some c =
     ≡ call_nodes (tree_of c.args.first.now) (option_map tree_of (option_copied c.args.voice)) = search rules in
     let some = sym c.call_short.ensures ∙ c.in-Some.is in (
       as_many,
-      first_short_is (call_asked (setting_of c.args.kept) (tree_of c.args.first.now) (option_map tree_of (option_copied c.args.voice)) c.args.numbers.now) c.args.numbers.now c.in-Some.place
-          (call_count (setting_of c.args.kept) (tree_of c.args.first.now) (option_map tree_of (option_copied c.args.voice))
+      first_short_is (call_asked (kept_setting c.args.kept) (tree_of c.args.first.now) (option_map tree_of (option_copied c.args.voice)) c.args.numbers.now) c.args.numbers.now c.in-Some.place
+          (call_count (kept_setting c.args.kept) (tree_of c.args.first.now) (option_map tree_of (option_copied c.args.voice))
           c.args.numbers.now ∙ sym as_many) some,
     )
 
@@ -24,8 +24,8 @@ returns c =
     let as_many : length c.args.numbers.now
     ≡ call_nodes (tree_of c.args.first.now) (option_map tree_of (option_copied c.args.voice)) = search rules in
     let none = sym c.call_short.ensures ∙ c.in_default.is in (
-      none_reaches 0 (call_asked (setting_of c.args.kept) (tree_of c.args.first.now) (option_map tree_of (option_copied c.args.voice)) c.args.numbers.now) c.args.numbers.now
-          (call_count (setting_of c.args.kept) (tree_of c.args.first.now) (option_map tree_of (option_copied c.args.voice))
+      none_reaches 0 (call_asked (kept_setting c.args.kept) (tree_of c.args.first.now) (option_map tree_of (option_copied c.args.voice)) c.args.numbers.now) c.args.numbers.now
+          (call_count (kept_setting c.args.kept) (tree_of c.args.first.now) (option_map tree_of (option_copied c.args.voice))
           c.args.numbers.now ∙ sym as_many) none,
       c.first_number.ensures,
     )

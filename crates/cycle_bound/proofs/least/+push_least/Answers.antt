@@ -4,7 +4,7 @@ use Rattle.scopes.specs.Trees.{opened}
 use Rattle.scope_lines.specs.Readings.{first_of, behind_of}
 use Rattle.scope_lines.proofs.Laws.{ends_behind}
 use Rattle.cycle_bound.specs.Rules.{nowhere, in_scope}
-use Rattle.cycle_bound.specs.Lines.{written, ends_of, setting_of}
+use Rattle.cycle_bound.specs.Lines.{written, ends_of, kept_setting}
 use Rattle.cycle_bound.proofs.Pushing.{one_pushed, two_pushed, choice_reads}
 use Rattle.cycle_bound.proofs.least.+push_least.Goals as goal
 
@@ -16,8 +16,8 @@ pub returns-in_ok-push-in-Scope-clause-numbers : goal.returns-in_ok-push-in-Scop
 returns-in_ok-push-in-Scope-clause-numbers t c =
     let next = c.in_ok-next-in-Scope.next in
     let pushed = one_pushed c.args.numbers.now
-    (written (setting_of c.args.kept) (ends_of c.args.ends.now) c.args.follows (first_of (opened c.count.result.1.now)))
-    (written (setting_of c.args.kept) (in_scope c.in-Scope.name next (ends_of c.args.ends.now)) next
+    (written (kept_setting c.args.kept) (ends_of c.args.ends.now) c.args.follows (first_of (opened c.count.result.1.now)))
+    (written (kept_setting c.args.kept) (in_scope c.in-Scope.name next (ends_of c.args.ends.now)) next
     (first_of (opened c.in-Some.rest.now)))
     c.in_ok-number-in-Scope.number in
     search (rules, pushed)
@@ -25,18 +25,18 @@ returns-in_ok-push-in-Scope-clause-numbers t c =
 pub returns-in_ok-push-in-Loop-clause-numbers : goal.returns-in_ok-push-in-Loop-clause-numbers
 returns-in_ok-push-in-Loop-clause-numbers t c =
     let pushed = one_pushed c.args.numbers.now
-    (written (setting_of c.args.kept) (ends_of c.args.ends.now) c.args.follows
+    (written (kept_setting c.args.kept) (ends_of c.args.ends.now) c.args.follows
     (first_of (opened c.count-in-Loop.result.1.now)))
-    (written (setting_of c.args.kept) nowhere 0 (first_of (opened c.in-Some.rest.now)))
+    (written (kept_setting c.args.kept) nowhere 0 (first_of (opened c.in-Some.rest.now)))
     c.cap.result in
     search (rules, pushed)
 
 pub returns-in_ok-push-in-When-clause-numbers : goal.returns-in_ok-push-in-When-clause-numbers
 returns-in_ok-push-in-When-clause-numbers t c =
     let pushed = one_pushed c.args.numbers.now
-    (written (setting_of c.args.kept) (ends_of c.args.ends.now) c.args.follows
+    (written (kept_setting c.args.kept) (ends_of c.args.ends.now) c.args.follows
     (first_of (opened c.count-in-When.result.1.now)))
-    (written (setting_of c.args.kept) (ends_of c.args.ends.now) c.in_ok-next-in-When.next
+    (written (kept_setting c.args.kept) (ends_of c.args.ends.now) c.in_ok-next-in-When.next
     (first_of (opened c.in-Some.rest.now)))
     c.if-hold.number in
     search (rules, pushed)
@@ -44,11 +44,11 @@ returns-in_ok-push-in-When-clause-numbers t c =
 pub returns-in_ok-push-in-Choose-clause-numbers : goal.returns-in_ok-push-in-Choose-clause-numbers
 returns-in_ok-push-in-Choose-clause-numbers t c =
     let pushed = two_pushed c.args.numbers.now
-    (written (setting_of c.args.kept) (ends_of c.args.ends.now) c.args.follows
+    (written (kept_setting c.args.kept) (ends_of c.args.ends.now) c.args.follows
     (first_of (opened c.count-in-Choose-2.result.1.now)))
-    (written (setting_of c.args.kept) (ends_of c.args.ends.now) c.in_ok-next-in-Choose.next
+    (written (kept_setting c.args.kept) (ends_of c.args.ends.now) c.in_ok-next-in-Choose.next
     (first_of (opened c.in-Some.rest.now)))
-    (written (setting_of c.args.kept) (ends_of c.args.ends.now) c.in_ok-next-in-Choose.next
+    (written (kept_setting c.args.kept) (ends_of c.args.ends.now) c.in_ok-next-in-Choose.next
     (first_of (opened c.count-in-Choose.result.1.now)))
     c.if-hold-2.number in
     let reads = choice_reads _ _ _ _ c.in-Some.ensures.cases.0 c.in-Choose.is c.requires.is_open in

@@ -3,25 +3,25 @@ use Rattle.std.proofs.Common.{rules}
 use Rattle.std.specs.Option.{option_copied, option_map}
 use Rattle.scopes.specs.Trees.{tree_of}
 use Rattle.cycle_bound.specs.Least.{least_of, least_voice}
-use Rattle.cycle_bound.specs.Lines.{setting_of}
+use Rattle.cycle_bound.specs.Lines.{kept_setting}
 use Rattle.cycle_bound.proofs.Written.{fit_parts, capped_is, all_written}
 use Rattle.cycle_bound.proofs.least.make.Goals as goal
 
 pub push_voice-requires-clause-fit : goal.push_voice-requires-clause-fit
 push_voice-requires-clause-fit c =
-    let parts = fit_parts (least_of (setting_of c.args.kept) (tree_of c.args.first.now))
-    (least_voice (setting_of c.args.kept) (option_map tree_of (option_copied c.args.voice))) c.requires.fit.1 in
+    let parts = fit_parts (least_of (kept_setting c.args.kept) (tree_of c.args.first.now))
+    (least_voice (kept_setting c.args.kept) (option_map tree_of (option_copied c.args.voice))) c.requires.fit.1 in
     parts.1
 
 pub push_block-requires-clause-fit : goal.push_block-requires-clause-fit
 push_block-requires-clause-fit c =
-    let parts = fit_parts (least_of (setting_of c.args.kept) (tree_of c.args.first.now))
-    (least_voice (setting_of c.args.kept) (option_map tree_of (option_copied c.args.voice))) c.requires.fit.1 in
+    let parts = fit_parts (least_of (kept_setting c.args.kept) (tree_of c.args.first.now))
+    (least_voice (kept_setting c.args.kept) (option_map tree_of (option_copied c.args.voice))) c.requires.fit.1 in
     parts.0
 
 pub returns : goal.returns
 returns c =
     let few = capped_is _ c.requires.fit.0 in
-    let all = all_written (least_of (setting_of c.args.kept) (tree_of c.args.first.now))
-    (least_voice (setting_of c.args.kept) (option_map tree_of (option_copied c.args.voice))) c.cap.result in
+    let all = all_written (least_of (kept_setting c.args.kept) (tree_of c.args.first.now))
+    (least_voice (kept_setting c.args.kept) (option_map tree_of (option_copied c.args.voice))) c.cap.result in
     search (rules, few, all)
