@@ -1,0 +1,4 @@
+-- To believe: the text of numbers.
+pub mod Texts
+-- Claimed: what holds of it.
+pub mod TextLaws
