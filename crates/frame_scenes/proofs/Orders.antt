@@ -38,7 +38,6 @@ use Rattle.frame_scenes.proofs.Lists.{from_none}
 use Rattle.frame_scenes.proofs.Turns.{AtTurn, is_channel}
 use Rattle.scopes.specs.declared.line.TheConstants.{OPEN}
 use Rattle.scopes.specs.Meaning.{turns_in}
-use Rattle.std.proofs.Math.Nat.{le-min}
 
 -- ---- bytes
 
@@ -176,21 +175,22 @@ bytes_are packed song k voice stands below few =
     subtune : PackedSubtune
     subtune = get_or packed.subtunes k no_subtune
 
--- a walk along it comes to a pattern within the turns of an open loop, where these are enough
+-- a walk along it comes to a pattern within so many turns, where these are enough
 walk_ends : (packed : PackedSong) (song : Song) (order : Order) (turns : ℕ) → StandsFor packed song →
-    IsOrderOf packed order → walk_count packed ≤ turns → WalkEnds (turns_in turns OPEN) order
+    IsOrderOf packed order → walk_count packed ≤ turns → WalkEnds turns order
 walk_ends packed song order turns stands is enough =
-    let ends = walks_end packed order is (order_plays packed song order stands is).endless in
-    let most : walk_count packed ≤ 255 = walk_counts_are_bytes packed
+    let ends = walks_end packed order is (order_plays packed song order stands is).endless in record {
+      goes_on = ends.goes_on;
+      within = λ place inside. (let within = ends.within place inside in omega (arith, within, enough));
+    }
+
+-- the longest walk of a packed song is a byte
+pub walk_is_byte : (packed : PackedSong) (song : Song) → StandsFor packed song → walk_count packed ≤ 255
+walk_is_byte packed song stands =
+    walk_counts_are_bytes packed
     (λ its of.
     let played = order_plays packed song its stands of in
-    record { endless = played.endless; short = played.limits.entries.count }) in record {
-      goes_on = ends.goes_on;
-      within = λ place inside.
-          let within = ends.within place inside in
-          let least = le-min most enough in
-          omega (arith, within, least);
-    }
+    record { endless = played.endless; short = played.limits.entries.count })
 
 -- ---- as a voice walks it
 
@@ -267,6 +267,6 @@ orderlist_stands layout packed song o k voice x at turn =
           (λ place inside.
           byte_kept layout packed song o k voice x at place turn inside (played.limits.entries.each place 0 inside));
       walks =
-          walk_ends packed song (order_in packed k voice) layout.open_turns scene.stands
+          walk_ends packed song (order_in packed k voice) (turns_in layout.open_turns OPEN) scene.stands
           (voice_order packed song k voice scene.stands scene.below turn.few) scene.laid.walks;
     }

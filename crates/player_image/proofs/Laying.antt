@@ -1,11 +1,13 @@
 -- The layout of an image is a player's: its variables and lists have their room, which the blocks may use.
 use Rattle.std.proofs.Common.{◌≡◌, ℕ, ◌+◌, ◌*◌, ◌%◌, ◌<◌, ◌≤◌, ◌⊎◌, ◌&&◌, ◌||◌, nat_le}
 use Rattle.std.proofs.Common.{nat_lt, Bool, true, false, List, Contains}
-use Rattle.std.proofs.Common.{refl, ap, ◌∙◌, arith, inl, inr}
+use Rattle.std.proofs.Common.{refl, sym, subst, ap, ◌∙◌, arith, inl, inr}
 use Rattle.std.proofs.lemmas.Bool.{or_cases, and_parts, both_ways, cases_lt, leb-true, ltb-true, le-leb, lt-ltb}
 use Rattle.std.proofs.lemmas.List.Elements.{All-contains}
 use Rattle.play_model.specs.declared.options.Options.{Options}
 use Rattle.packed_form.specs.declared.packed_songs.PackedSong.{PackedSong}
+use Rattle.packed_form.specs.WalkCount.{walk_count}
+use Rattle.scopes.proofs.Laws.{open_turns_are}
 use Rattle.asm6502.specs.declared.lines.Line.{Line}
 use Rattle.asm6502.specs.Lines.{size_of}
 use Rattle.player_memory.specs.declared.conditions.TheConstants.{NOTE_DEPENDENT, TIMED}
@@ -391,8 +393,9 @@ module _ (packed : PackedSong) (o : Options) (origin pointer : ℕ) (variables :
         (writes_register packed o origin pointer variables lists (0xD400 + register) (omega arith) (omega (arith, few)));
   }
 
-  pub player_layout : IsPlayerLayout (wide_layout (plan_of packed o origin pointer variables lists) which) packed
-  player_layout =
+  pub player_layout : walk_count packed ≤ 255 →
+      IsPlayerLayout (wide_layout (plan_of packed o origin pointer variables lists) which) packed
+  player_layout few =
       let laid = are_laid in record {
         room = room;
         uses = uses;
@@ -404,5 +407,5 @@ module _ (packed : PackedSong) (o : Options) (origin pointer : ℕ) (variables :
         envelopes = laid.envelopes;
         orders = laid.orders;
         patterns = laid.patterns;
-        walks = omega arith;
+        walks = subst (λ turns. walk_count packed ≤ turns) (sym (open_turns_are (walk_count packed) few)) (omega arith);
       }

@@ -10,6 +10,7 @@ use Rattle.packed_form.specs.declared.packed_songs.PackedSong.{PackedSong}
 use Rattle.packed_form.specs.StandsFor.{StandsFor}
 use Rattle.asm6502.specs.Assembly.{assembled_bytes}
 use Rattle.asm6502.specs.Standing.{BytesStand}
+use Rattle.frame_scenes.proofs.Laws.{walk_is_byte}
 use Rattle.player_memory.specs.Holds.{order_label}
 use Rattle.player_memory.specs.declared.labels.TheConstants.{ORDERS}
 use Rattle.player_memory.specs.declared.variables.TheConstants.{FIRST_SONG_BYTES}
@@ -160,7 +161,9 @@ module _ (packed : PackedSong) (song : Song) (o : Options) (origin pointer : ℕ
         common = λ which. (wide which).common;
         options = λ which. (wide which).options_are;
         timed = kept.timer;
-        laid = player_layout packed o origin pointer image.its.variables image.its.lists laid;
+        laid = λ which.
+            player_layout packed o origin pointer image.its.variables image.its.lists laid which
+            (walk_is_byte packed song stands);
         first = λ label few. (uncleared_are_first (image_holds packed o) label few).1;
         behind = cleared_are_behind (image_holds packed o);
         timer = sets_timer packed o origin pointer image.its.variables image.its.lists;

@@ -40,6 +40,8 @@ use Rattle.player_memory.proofs.WorkedRooms.{IsLaid, IsOpen, room_in, uses_in, b
 use Rattle.player_memory.proofs.Starting.{voice_begins, shared_rows_begin, beginnings_play}
 use Rattle.player_memory.proofs.SetLists.{all_are_set, lists_stand, behind}
 use Rattle.packed_form.specs.WalkCount.{walk_count, most_looks, looks_from}
+use Rattle.scopes.specs.declared.line.TheConstants.{OPEN}
+use Rattle.scopes.proofs.Laws.{turns_within}
 
 -- ---- lists
 
@@ -246,6 +248,8 @@ layouts_are_worked = record {
   port = λ is. (let l = is.room.pointer_low in omega (arith, l));
   closed = λ is. both_ways false refl (is.uses.registers 0 (omega arith));
   few_turns = λ is. (let l = is.walks in omega (arith, l, walk));
+  long_walk = λ layout packed long is.
+      (let most = turns_within layout.open_turns OPEN in let l = is.walks in omega (arith, long, l, most));
   frequency_low = λ is. (let e = is.next.frequency_lows in omega (arith, e));
   frequency_high = λ is. (let e = is.next.frequency_highs in omega (arith, e));
   wave_left = λ is. (let e = is.next.wave_lefts in omega (arith, e));

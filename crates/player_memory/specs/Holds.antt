@@ -13,7 +13,9 @@ use Rattle.play_model.specs.Frame.{subtune_at}
 use Rattle.play_model.specs.Uses.{UsesFeature}
 use Rattle.packed_form.specs.declared.packed_songs.PackedSong.{PackedSong}
 use Rattle.packed_form.specs.Unpacked.{unpacked_song}
+use Rattle.scopes.specs.declared.line.TheConstants.{OPEN}
 use Rattle.scopes.specs.Desk.{Layout}
+use Rattle.scopes.specs.Meaning.{turns_in}
 use Rattle.player_memory.specs.declared.labels.TheConstants.{LENT, ORDERS, PATTERNS, FREQUENCY_LOWS, FREQUENCY_HIGHS}
 use Rattle.player_memory.specs.declared.labels.TheConstants.{NEXT_FREQUENCY_LOWS, NEXT_FREQUENCY_HIGHS, WAVE_LEFTS}
 use Rattle.player_memory.specs.declared.labels.TheConstants.{NEXT_WAVE_LEFTS, WAVE_RIGHTS, NEXT_WAVE_RIGHTS}
@@ -95,7 +97,7 @@ pub record IsPlayerLayout (layout : Layout) (packed : PackedSong) : Type 0 where
   pub envelopes : layout.address ENVELOPE_FROM < MEMORY_SIZE
   pub orders : (number : ℕ) → number < 3 * length packed.subtunes → layout.address (ORDERS + number) < MEMORY_SIZE
   pub patterns : (number : ℕ) → number < length packed.patterns → PatternStands layout packed number
-  pub walks : walk_count packed ≤ layout.open_turns
+  pub walks : walk_count packed ≤ turns_in layout.open_turns OPEN
 
 -- ---- what is kept
 

@@ -1,6 +1,6 @@
 -- A memory that holds the start of a subtune with the lists of a small packed song, worked by hand; and such as don't
 -- hold it, layouts that don't have their room, and lines that aren't kept.
-use Rattle.std.specs.Prelude.{◌≡◌, ◌≢◌, ℕ, ◌+◌, ◌-◌, ◌&&◌, true, false, not, nat_eq, nat_le, nat_lt, if◌then◌else◌}
+use Rattle.std.specs.Prelude.{◌≡◌, ◌≢◌, ℕ, ◌+◌, ◌-◌, ◌<◌, ◌&&◌, true, false, not, nat_eq, nat_le, nat_lt, if◌then◌else◌}
 use Rattle.std.specs.Prelude.{List, [], ◌∷◌, length, map, slice_index}
 use Rattle.code_runs.specs.Runs.{put}
 use Rattle.play_model.specs.State.{FrameState, no_options, start_state, start_voice}
@@ -19,6 +19,7 @@ use Rattle.player_memory.specs.Holds.{KeepsUsed, held}
 use Rattle.player_memory.specs.WorkedPlays.{with_variable}
 use Rattle.player_memory.specs.WorkedStarting.{with_voice_begun}
 use Rattle.player_memory.specs.WorkedLists.{all_pieces, worked_song, plain_song, list_layout, plain_layout}
+use Rattle.packed_form.specs.declared.packed_songs.PackedSong.{PackedSong}
 use Rattle.packed_form.specs.WalkCount.{walk_count}
 
 -- ---- the memory
@@ -117,6 +118,8 @@ pub record LayoutsAreWorked : Type 0 where
   pub closed : ¬ IsLaidOut (record list_layout { may_write = λ place. nat_le 0x1006 place && nat_lt place 0x1108 })
   -- a walk along an orderlist of transposes and repeats
   pub few_turns : ¬ IsLaidOut (record list_layout { open_turns = walk_count worked_song - 1 })
+  -- and one that takes more than a loop can have, whatever the layout says
+  pub long_walk : (layout : Layout) (packed : PackedSong) → 255 < walk_count packed → ¬ IsPlayerLayout layout packed
   -- the byte behind a label's
   pub frequency_low : ¬ IsLaidOut (moved_in list_layout NEXT_FREQUENCY_LOWS 0x1210)
   pub frequency_high : ¬ IsLaidOut (moved_in list_layout NEXT_FREQUENCY_HIGHS 0x12A0)
