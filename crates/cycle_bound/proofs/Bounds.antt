@@ -13,14 +13,14 @@ use Rattle.scopes.specs.Desk.{Desk, Layout, operand_place}
 use Rattle.scopes.specs.Steps.{done, done_with}
 use Rattle.scopes.specs.Trees.{Tree, DoTree, WithTree, NoneTree, ThenTree, ScopeTree, LeaveTree, LeaveIfTree, LoopTree}
 use Rattle.scopes.specs.Trees.{AgainTree, AgainIfTree, WhenTree, ChooseTree, NeverTree}
-use Rattle.scopes.specs.Meaning.{Outcome, Done, Left, Again, Stuck, Ran, each_one, is_met, ended, stepped, behind as then_behind, turns_in}
-use Rattle.scopes.specs.Meaning.{and_then, out_of_scope, next_turn, turns, ran}
+use Rattle.scopes.specs.Meaning.{Outcome, Done, Left, Again, Stuck, Ran, each_one, is_met, ended, stepped}
+use Rattle.scopes.specs.Meaning.{behind as then_behind, turns_in, and_then, out_of_scope, next_turn, turns, ran}
 use Rattle.scope_lines.specs.Sizes.{size}
 use Rattle.scope_lines.specs.Instructions.{mode_of}
 use Rattle.scope_lines.specs.Lines.{in_scope as around_scope, in_loop as around_loop}
 use Rattle.scope_lines.specs.Cycles.{with_cycles, test_cycles, if_done, if_again, turn_cycles, cycles}
-use Rattle.cycle_bound.specs.Rules.{alone_most, with_most, jump_most, passed_most, taken_most, Ends, nowhere, in_scope, entry, Setting}
-use Rattle.cycle_bound.specs.Rules.{behind_first, furthest, nodes, asked, Reaches}
+use Rattle.cycle_bound.specs.Rules.{alone_most, with_most, jump_most, passed_most, taken_most, Ends, nowhere, in_scope}
+use Rattle.cycle_bound.specs.Rules.{Setting, entry, behind_first, furthest, nodes, asked, Reaches}
 use Rattle.cycle_bound.specs.Bounds.{number_at, TreesKeepBounds, BlocksKeepBounds, LoweredBlocksKeepBounds, setting_of}
 use Rattle.scope_lines.specs.Lines.{block_around}
 use Rattle.scope_lines.specs.Lowered.{layout_at, desk_of}
@@ -126,7 +126,7 @@ with_keeps layout mnemonic operand desk =
     omega (arith, few)
 
 -- a branch
-one_few : (x : Bool) → one_if x ≤ 1
+pub one_few : (x : Bool) → one_if x ≤ 1
 one_few true = omega arith
 one_few false = omega arith
 
@@ -366,7 +366,8 @@ trees_keep_bounds layout around place ends behind (ScopeTree name body) numbers 
 trees_keep_bounds layout around place ends behind (LeaveTree name) numbers desk reaches =
     first_reaches (jump_most + ends name) [] numbers behind reaches
 trees_keep_bounds layout around place ends behind (LeaveIfTree name test) numbers desk reaches =
-    within (tests_keep ends behind _ _ (Left name) (is_met test desk) desk) (first_reaches (max (passed_most + behind) (taken_most + ends name)) [] numbers behind reaches)
+    within (tests_keep ends behind _ _ (Left name) (is_met test desk) desk)
+    (first_reaches (max (passed_most + behind) (taken_most + ends name)) [] numbers behind reaches)
 trees_keep_bounds layout around place ends behind (LoopTree count body) numbers desk reaches =
     let far = max behind (furthest layout.holds ends body) in
     let most = entry (behind_first numbers) 0 in
@@ -378,14 +379,16 @@ trees_keep_bounds layout around place ends behind (LoopTree count body) numbers 
     (le-max_left behind (furthest layout.holds ends body))
     (λ d.
     let all =
-    trees_keep_bounds layout inside place nowhere 0 body (behind_first numbers) d (rest_reaches (turns * most + far) more numbers reaches) in
+    trees_keep_bounds layout inside place nowhere 0 body (behind_first numbers) d
+    (rest_reaches (turns * most + far) more numbers reaches) in
     omega (arith, all))
     (λ d. within (tree_leaves layout ends body d) (le-max_right behind (furthest layout.holds ends body))) turns desk)
     (first_reaches (turns * most + far) more numbers behind reaches)
 trees_keep_bounds layout around place ends behind AgainTree numbers desk reaches =
     first_reaches jump_most [] numbers behind reaches
 trees_keep_bounds layout around place ends behind (AgainIfTree test) numbers desk reaches =
-    within (tests_keep ends behind _ _ Again (is_met test desk) desk) (first_reaches (max (passed_most + behind) taken_most) [] numbers behind reaches)
+    within (tests_keep ends behind _ _ Again (is_met test desk) desk)
+    (first_reaches (max (passed_most + behind) taken_most) [] numbers behind reaches)
 trees_keep_bounds layout around place ends behind (WhenTree condition body) numbers desk reaches =
     let more = asked (setting_of layout) ends behind body (behind_first numbers) in
     let least = if layout.holds condition then entry (behind_first numbers) behind else behind in

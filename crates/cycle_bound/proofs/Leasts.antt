@@ -13,7 +13,7 @@ use Rattle.scopes.specs.Meaning.{turns_in}
 
 -- ---- lists
 
-reaches_itself : (numbers : List ℕ) → Reaches numbers numbers
+pub reaches_itself : (numbers : List ℕ) → Reaches numbers numbers
 reaches_itself [] = tt
 reaches_itself (number ∷ numbers) = (omega arith, reaches_itself numbers)
 
@@ -31,7 +31,7 @@ drop_length (x ∷ one) two zero e = absurd (omega (arith, e))
 drop_length (x ∷ one) two (suc n) e =
     let less : length one ≡ n = omega (arith, e) in drop_length one two n less
 
-least_count : (setting : Setting) (ends : Ends) (behind : ℕ) (tree : Tree) →
+pub least_count : (setting : Setting) (ends : Ends) (behind : ℕ) (tree : Tree) →
     length (least setting ends behind tree) ≡ nodes tree
 least_count setting ends behind (DoTree mnemonic) = refl
 least_count setting ends behind (WithTree mnemonic operand) = refl
@@ -82,7 +82,9 @@ least_asked setting ends behind (ScopeTree name body) =
 least_asked setting ends behind (LeaveTree name) = refl
 least_asked setting ends behind (LeaveIfTree name test) = refl
 least_asked setting ends behind (LoopTree count body) =
-    ap (λ l. (turns_in setting.open_turns count * entry (least setting nowhere 0 body) 0 + max behind (furthest setting.holds ends body)) ∷ l)
+    ap
+    (λ l. (turns_in setting.open_turns count * entry (least setting nowhere 0 body) 0
+    + max behind (furthest setting.holds ends body)) ∷ l)
     (least_asked setting nowhere 0 body)
 least_asked setting ends behind AgainTree = refl
 least_asked setting ends behind (AgainIfTree test) = refl
@@ -268,7 +270,8 @@ least_reached setting one two behind more (ChooseTree condition this other) numb
     let here = least_reached setting one two behind more this xs below few both.0 in
     let there = least_reached setting one two behind more other ys below few both.1 in
     lower_first asks
-    (if setting.holds condition then entry (least setting one behind this) behind else entry (least setting one behind other) behind)
+    (if setting.holds condition then entry (least setting one behind this) behind
+    else entry (least setting one behind other) behind)
     (first ++ second) (least setting one behind this ++ least setting one behind other) numbers
     (sides_below (setting.holds condition) (entry_below (least setting one behind this) xs here few)
     (entry_below (least setting one behind other) ys there few)) reaches
@@ -283,7 +286,8 @@ voice_admitted : (setting : Setting) (voice : Option Tree) →
 voice_admitted setting None = refl
 voice_admitted setting (Some block) = least_asked setting nowhere 0 block
 
-all_admitted : (setting : Setting) (first : Tree) (voice : Option Tree) → call_asked setting first voice (least_all setting first voice) ≡ least_all setting first voice
+all_admitted : (setting : Setting) (first : Tree) (voice : Option Tree) →
+    call_asked setting first voice (least_all setting first voice) ≡ least_all setting first voice
 all_admitted setting first voice =
     let xs = least_of setting first in
     let ys = least_voice setting voice in
@@ -309,8 +313,8 @@ voice_below setting None numbers reaches = omega arith
 voice_below setting (Some block) numbers reaches =
     let less = entry_below {d = 0} {e = 0} (least_of setting block) numbers reaches (omega arith) in omega (arith, less)
 
-all_reached : (setting : Setting) (first : Tree) (voice : Option Tree) (numbers : List ℕ) → Reaches (call_asked setting first voice numbers) numbers →
-    Reaches (least_all setting first voice) numbers
+all_reached : (setting : Setting) (first : Tree) (voice : Option Tree) (numbers : List ℕ) →
+    Reaches (call_asked setting first voice numbers) numbers → Reaches (least_all setting first voice) numbers
 all_reached setting first voice numbers reaches =
     let xs = first_numbers first numbers in
     let ys = voice_numbers first numbers in
@@ -333,6 +337,7 @@ all_reached setting first voice numbers reaches =
 
 pub least_are_least : LeastAreLeast
 least_are_least setting first voice = record {
-  admitted = subst (λ l. Reaches l (least_all setting first voice)) (sym (all_admitted setting first voice)) (reaches_itself (least_all setting first voice));
+  admitted = subst (λ l. Reaches l (least_all setting first voice)) (sym (all_admitted setting first voice))
+      (reaches_itself (least_all setting first voice));
   least = all_reached setting first voice;
 }

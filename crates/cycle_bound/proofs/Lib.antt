@@ -9,8 +9,8 @@ pub mod Leasts
 pub mod WorkedRules
 -- Numbers that are pushed.
 pub mod Pushing
--- Where the least numbers have room, they are written.
-pub mod Written
+-- Where the least numbers have room.
+pub mod Fits
 -- Where numbers are too small.
 pub mod Shorts
 -- How great they can be.

@@ -1,35 +1,29 @@
 -- Numbers that are pushed, the last one first.
-use Rattle.std.proofs.Common.{◌≡◌, ℕ, ◌++◌, true, List, [], ◌∷◌, reverse, sym, ap, subst, ◌∙◌}
-use Rattle.std.proofs.lemmas.List.{reverse-append, append_assoc}
-use Rattle.scopes.specs.declared.line.Line.{Line}
-use Rattle.scopes.specs.declared.line.Line.TheVariants.{Choose}
-use Rattle.scopes.specs.Trees.{opened}
-use Rattle.scope_lines.specs.Readings.{are_open}
-use Rattle.scope_lines.proofs.Laws.{Chosen, choose_reads}
+use Rattle.std.proofs.Common.{◌≡◌, ℕ, ◌≤◌, ◌++◌, List, [], ◌∷◌, length, reverse, refl, sym, ap, arith, ◌∙◌}
+use Rattle.std.proofs.lemmas.List.{reverse-append, reverse-reverse, append_assoc}
+use Rattle.cycle_bound.specs.Rules.{entry, behind_first}
 
--- a choice, as it is read
-pub choice_reads : (lines rest : List Line) (line : Line) (condition : ℕ) → lines ≡ line ∷ rest →
-    line ≡ Choose condition → are_open (opened lines) ≡ true → Chosen condition (opened rest) (opened lines)
-choice_reads lines rest line condition e is o =
-    let same : lines ≡ Choose condition ∷ rest = e ∙ ap (λ l. l ∷ rest) is in
-    subst (λ ls. Chosen condition (opened rest) (opened ls)) (sym same)
-    (choose_reads condition (opened rest) (subst (λ ls. are_open (opened ls) ≡ true) same o))
+-- those of lines, and in front of them those of others
+pub both_pushed : (old first rest : List ℕ) →
+    (old ++ reverse rest) ++ reverse first ≡ old ++ reverse (first ++ rest)
+both_pushed old first rest =
+    append_assoc old (reverse rest) (reverse first) ∙ ap (λ l. old ++ l) (sym (reverse-append first rest))
 
--- behind those of the lines that follow, those inside, and the line's own
-pub one_pushed : (old rest inner : List ℕ) (number : ℕ) →
-    ((old ++ reverse rest) ++ reverse inner) ++ number ∷ [] ≡ old ++ reverse ((number ∷ inner) ++ rest)
-one_pushed old rest inner number =
-    append_assoc (old ++ reverse rest) (reverse inner) (number ∷ [])
-    ∙ append_assoc old (reverse rest) (reverse inner ++ number ∷ [])
-    ∙ ap (λ l. old ++ l)
-    (sym (reverse-append (number ∷ inner) rest ∙ ap (λ l. reverse rest ++ l) (reverse-append (number ∷ []) inner)))
+-- the first of both
+pub first_pushed : (own rest : List ℕ) (follows : ℕ) → 1 ≤ length own → entry own 0 ≡ entry (own ++ rest) follows
+first_pushed [] rest follows some = absurd (omega (arith, some))
+first_pushed (number ∷ own) rest follows some = refl
 
--- and of a choice
-pub two_pushed : (old rest this other : List ℕ) (number : ℕ) →
-    (((old ++ reverse rest) ++ reverse other) ++ reverse this) ++ number ∷ []
-    ≡ old ++ reverse ((number ∷ (this ++ other)) ++ rest)
-two_pushed old rest this other number =
-    ap (λ l. l ++ number ∷ [])
-    (append_assoc (old ++ reverse rest) (reverse other) (reverse this)
-    ∙ ap (λ l. (old ++ reverse rest) ++ l) (sym (reverse-append this other)))
-    ∙ one_pushed old rest (this ++ other) number
+-- a line's own number in front of those of the lines in it, and in front of those of the lines behind
+pub line_pushed : (old own rest : List ℕ) → 1 ≤ length own →
+    ((old ++ reverse rest) ++ reverse (behind_first own)) ++ entry own 0 ∷ [] ≡ old ++ reverse (own ++ rest)
+line_pushed old [] rest some = absurd (omega (arith, some))
+line_pushed old (number ∷ inner) rest some =
+    both_pushed (old ++ reverse rest) (number ∷ []) inner ∙ both_pushed old (number ∷ inner) rest
+
+-- the number of a call in front of those of the first block, in front of those of the voices'
+pub all_pushed : (first voice : List ℕ) (number : ℕ) →
+    reverse ((([] ++ reverse voice) ++ reverse first) ++ number ∷ []) ≡ number ∷ (first ++ voice)
+all_pushed first voice number =
+    ap reverse (both_pushed ([] ++ reverse voice) (number ∷ []) first ∙ both_pushed [] (number ∷ first) voice)
+    ∙ reverse-reverse ((number ∷ first) ++ voice)

@@ -1,6 +1,6 @@
 -- Where numbers don't reach what is asked, line by line.
-use Rattle.std.proofs.Common.{◌≡◌, ℕ, zero, suc, ◌+◌, ◌-◌, ◌<◌, ◌≤◌, ◌++◌, Bool, true, false, nat_lt, if◌then◌else◌, List, [], ◌∷◌}
-use Rattle.std.proofs.Common.{length, get_or, take, drop, Option, Some, None, refl, sym, ap, subst, ◌∙◌, arith}
+use Rattle.std.proofs.Common.{◌≡◌, ℕ, zero, suc, ◌+◌, ◌-◌, ◌<◌, ◌≤◌, ◌++◌, Bool, true, false, nat_lt, if◌then◌else◌}
+use Rattle.std.proofs.Common.{List, [], ◌∷◌, length, get_or, take, drop, Option, Some, None, refl, sym, ap, subst, ◌∙◌, arith}
 use Rattle.std.proofs.lemmas.Bool.{ltb-true, ltb-false}
 use Rattle.std.proofs.lemmas.List.{length-append, get_or_append_left, get_or-append-add}
 use Rattle.std.specs.Option.{option_or}
@@ -13,7 +13,7 @@ use Rattle.scope_lines.proofs.Laws.{simple_reads, scope_reads, loop_reads, when_
 use Rattle.cycle_bound.specs.Rules.{Setting, Ends, nowhere, entry, nodes, asked, Reaches, bound_by}
 use Rattle.cycle_bound.specs.EntranceRules.{AdmitsCall, voice_asked, call_asked, first_numbers, voice_numbers}
 use Rattle.cycle_bound.specs.Faults.{IsShort, voice_nodes, call_nodes}
-use Rattle.cycle_bound.specs.Lines.{short_from, head_of, rest_of, has_number}
+use Rattle.cycle_bound.specs.Private.{short_from, head_of, rest_of, has_number}
 use Rattle.cycle_bound.proofs.Bounds.{asked_count, one_more, length_both}
 
 -- ---- lists
@@ -53,24 +53,31 @@ short_both place (suc n) (l ∷ one) two (number ∷ numbers) e =
 -- ---- lines
 
 -- a line that has a number stands in front of others
-split_head : (tree first rest : Tree) → tree ≡ ThenTree first rest → tree ≡ ThenTree (head_of tree) (rest_of tree)
-split_head tree first rest e = e ∙ sym (ap (λ t. ThenTree (head_of t) (rest_of t)) e)
+pub record Stands (tree : Tree) : Type 0 where
+  pub is : tree ≡ ThenTree (head_of tree) (rest_of tree)
+  pub some : 1 ≤ nodes (head_of tree)
 
-pub is_then : (line : Line) (opens : List Open) → are_open (led line opens) ≡ true → has_number line ≡ true →
-    first_of (led line opens) ≡ ThenTree (head_of (first_of (led line opens))) (rest_of (first_of (led line opens)))
-is_then (Do mnemonic) opens o n = split_head _ _ _ (simple_reads (Do mnemonic) opens refl o).first
-is_then (With mnemonic operand) opens o n = split_head _ _ _ (simple_reads (With mnemonic operand) opens refl o).first
-is_then (Scope name) opens o n = split_head _ _ _ (scope_reads name opens o).first
-is_then (Leave name) opens o n = split_head _ _ _ (simple_reads (Leave name) opens refl o).first
-is_then (LeaveIf name test) opens o n = split_head _ _ _ (simple_reads (LeaveIf name test) opens refl o).first
-is_then (Loop count) opens o n = split_head _ _ _ (loop_reads count opens o).first
-is_then Again opens o n = split_head _ _ _ (simple_reads Again opens refl o).first
-is_then (AgainIf test) opens o n = split_head _ _ _ (simple_reads (AgainIf test) opens refl o).first
-is_then (When condition) opens o n = split_head _ _ _ (when_reads condition opens o).first
-is_then (Choose condition) opens o n = split_head _ _ _ (choose_reads condition opens o).first
-is_then Never opens o n = split_head _ _ _ (simple_reads Never opens refl o).first
-is_then Or opens o n = absurd (cc)
-is_then End opens o n = absurd (cc)
+split_head : (tree first rest : Tree) → tree ≡ ThenTree first rest → 1 ≤ nodes first → Stands tree
+split_head tree first rest e some =
+    subst Stands (sym e) (record { is = refl; some = some })
+
+pub line_stands : (line : Line) (opens : List Open) → are_open (led line opens) ≡ true → has_number line ≡ true →
+    Stands (first_of (led line opens))
+line_stands (Do mnemonic) opens o n = split_head _ _ _ (simple_reads (Do mnemonic) opens refl o).first (omega arith)
+line_stands (With mnemonic operand) opens o n =
+    split_head _ _ _ (simple_reads (With mnemonic operand) opens refl o).first (omega arith)
+line_stands (Scope name) opens o n = split_head _ _ _ (scope_reads name opens o).first (omega arith)
+line_stands (Leave name) opens o n = split_head _ _ _ (simple_reads (Leave name) opens refl o).first (omega arith)
+line_stands (LeaveIf name test) opens o n =
+    split_head _ _ _ (simple_reads (LeaveIf name test) opens refl o).first (omega arith)
+line_stands (Loop count) opens o n = split_head _ _ _ (loop_reads count opens o).first (omega arith)
+line_stands Again opens o n = split_head _ _ _ (simple_reads Again opens refl o).first (omega arith)
+line_stands (AgainIf test) opens o n = split_head _ _ _ (simple_reads (AgainIf test) opens refl o).first (omega arith)
+line_stands (When condition) opens o n = split_head _ _ _ (when_reads condition opens o).first (omega arith)
+line_stands (Choose condition) opens o n = split_head _ _ _ (choose_reads condition opens o).first (omega arith)
+line_stands Never opens o n = split_head _ _ _ (simple_reads Never opens refl o).first (omega arith)
+line_stands Or opens o n = absurd (cc)
+line_stands End opens o n = absurd (cc)
 
 -- the numbers of a line and of those in it, and those of the lines behind
 short_then : (setting : Setting) (ends : Ends) (follows : ℕ) (first rest : Tree) (numbers : List ℕ) (place : ℕ) →
@@ -97,7 +104,7 @@ pub short_on : (setting : Setting) (ends : Ends) (follows : ℕ) (line : Line) (
     (drop (nodes (head_of (first_of (led line opens)))) numbers))
     (drop (nodes (head_of (first_of (led line opens)))) numbers))
 short_on setting ends follows line opens numbers place o n =
-    ap (λ t. short_from place (asked setting ends follows t numbers) numbers) (is_then line opens o n)
+    ap (λ t. short_from place (asked setting ends follows t numbers) numbers) (line_stands line opens o n).is
     ∙ short_then setting ends follows (head_of (first_of (led line opens))) (rest_of (first_of (led line opens))) numbers
     place
 

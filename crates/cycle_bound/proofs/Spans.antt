@@ -6,10 +6,7 @@ use Rattle.cpu6502.specs.declared.mnemonic.Mnemonic.{Mnemonic}
 use Rattle.cpu6502.specs.declared.mnemonic.Mnemonic.TheVariants.{Asl, Brk, Dec, Inc, Jmp, Jsr, Lsr, Pha, Php, Pla, Plp}
 use Rattle.cpu6502.specs.declared.mnemonic.Mnemonic.TheVariants.{Rol, Ror, Rti, Rts, Sta, Stx, Sty}
 use Rattle.cpu6502.specs.declared.mnemonic.Mode.{Mode}
-use Rattle.cpu6502.specs.declared.mnemonic.Mode.TheVariants.{Implied, Accumulator, Immediate, ZeroPage, ZeroPageX}
-use Rattle.cpu6502.specs.declared.mnemonic.Mode.TheVariants.{ZeroPageY, Absolute, AbsoluteX, AbsoluteY, IndirectX}
-use Rattle.cpu6502.specs.declared.mnemonic.Mode.TheVariants.{IndirectY, Indirect, Relative}
-use Rattle.cpu6502.specs.Registers.{one_if}
+use Rattle.cpu6502.specs.declared.mnemonic.Mode.TheVariants.{Implied}
 use Rattle.cpu6502.specs.Cycles.{is_read, is_paged}
 use Rattle.cpu6502.specs.Manual.{read_cycles, store_cycles, change_cycles, jump_cycles, cycles_of}
 use Rattle.scope_lines.specs.Instructions.{mode_of, alone_mode}
@@ -21,6 +18,7 @@ use Rattle.scopes.proofs.Laws.{turns_within}
 use Rattle.cycle_bound.specs.Rules.{Setting, Ends, nowhere, in_scope, entry, furthest, alone_most, with_most}
 use Rattle.cycle_bound.specs.Least.{least, least_of, least_all, Fit}
 use Rattle.cycle_bound.specs.Spans.{span, call_span, LeastFit}
+use Rattle.cycle_bound.proofs.Bounds.{one_few}
 
 -- ---- lists
 
@@ -91,65 +89,22 @@ furthest_within holds most ends NeverTree within = omega arith
 
 -- ---- instructions
 
+-- one mode stands alone, so that the others are taken one by one
 read_few : (mode : Mode) → read_cycles mode ≤ 7
 read_few Implied = omega arith
-read_few Accumulator = omega arith
-read_few Immediate = omega arith
-read_few ZeroPage = omega arith
-read_few ZeroPageX = omega arith
-read_few ZeroPageY = omega arith
-read_few Absolute = omega arith
-read_few AbsoluteX = omega arith
-read_few AbsoluteY = omega arith
-read_few IndirectX = omega arith
-read_few IndirectY = omega arith
-read_few Indirect = omega arith
-read_few Relative = omega arith
+read_few _ = omega arith
 
 store_few : (mode : Mode) → store_cycles mode ≤ 7
 store_few Implied = omega arith
-store_few Accumulator = omega arith
-store_few Immediate = omega arith
-store_few ZeroPage = omega arith
-store_few ZeroPageX = omega arith
-store_few ZeroPageY = omega arith
-store_few Absolute = omega arith
-store_few AbsoluteX = omega arith
-store_few AbsoluteY = omega arith
-store_few IndirectX = omega arith
-store_few IndirectY = omega arith
-store_few Indirect = omega arith
-store_few Relative = omega arith
+store_few _ = omega arith
 
 change_few : (mode : Mode) → change_cycles mode ≤ 7
 change_few Implied = omega arith
-change_few Accumulator = omega arith
-change_few Immediate = omega arith
-change_few ZeroPage = omega arith
-change_few ZeroPageX = omega arith
-change_few ZeroPageY = omega arith
-change_few Absolute = omega arith
-change_few AbsoluteX = omega arith
-change_few AbsoluteY = omega arith
-change_few IndirectX = omega arith
-change_few IndirectY = omega arith
-change_few Indirect = omega arith
-change_few Relative = omega arith
+change_few _ = omega arith
 
 jump_few : (mode : Mode) → jump_cycles mode ≤ 7
 jump_few Implied = omega arith
-jump_few Accumulator = omega arith
-jump_few Immediate = omega arith
-jump_few ZeroPage = omega arith
-jump_few ZeroPageX = omega arith
-jump_few ZeroPageY = omega arith
-jump_few Absolute = omega arith
-jump_few AbsoluteX = omega arith
-jump_few AbsoluteY = omega arith
-jump_few IndirectX = omega arith
-jump_few IndirectY = omega arith
-jump_few Indirect = omega arith
-jump_few Relative = omega arith
+jump_few _ = omega arith
 
 cycles_few : (mnemonic : Mnemonic) (mode : Mode) → cycles_of mnemonic mode ≤ 7
 cycles_few Sta mode = store_few mode
@@ -172,17 +127,13 @@ cycles_few Pla mode = omega arith
 cycles_few Plp mode = omega arith
 cycles_few _ mode = read_few mode
 
-crossed_few : (z : Bool) → one_if z ≤ 1
-crossed_few true = omega arith
-crossed_few false = omega arith
-
 alone : (mnemonic : Mnemonic) → alone_most mnemonic ≤ 8
 alone mnemonic = (let few = cycles_few mnemonic (alone_mode mnemonic) in omega (arith, few))
 
 with_one : (mnemonic : Mnemonic) (operand : Operand) → with_most mnemonic operand ≤ 8
 with_one mnemonic operand =
     let few = cycles_few mnemonic (mode_of operand) in
-    let crossed = crossed_few (is_paged (mode_of operand) && is_read mnemonic) in
+    let crossed = one_few (is_paged (mode_of operand) && is_read mnemonic) in
     omega (arith, few, crossed)
 
 -- ---- trees

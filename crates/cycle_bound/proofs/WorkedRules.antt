@@ -5,13 +5,12 @@ use Rattle.scope_lines.specs.declared.worked.TheConstants.{CAPPED, LOUD, SOUGHT,
 use Rattle.cycle_bound.specs.declared.worked.TheConstants.{KEPT, ONE_OF_TWO, IN_LOOPS, WRITES, LEFT_FAR, SAME_NAME}
 use Rattle.cycle_bound.specs.declared.worked.TheConstants.{LEFT_EITHER, ENDLESS}
 use Rattle.cycle_bound.specs.Rules.{nowhere, asked, Reaches, Setting}
-use Rattle.cycle_bound.specs.WorkedRules.{SpansAreWorked, FaultsAreWorked, none, only, opened, OpenLoopsAreCounted, AreLeast, LoopsAreCounted, WaysOutAreCounted, BranchesAreCounted}
-use Rattle.cycle_bound.specs.WorkedRules.{FarWaysAreCounted, WritesAreCounted, EntrancesAreCounted, ConditionsAreCounted, NumbersAreAsWorked}
+use Rattle.cycle_bound.specs.WorkedRules.{none, only, with_turns, AreLeast, NumbersAreAsWorked}
+use Rattle.cycle_bound.specs.WorkedRules.{LoopsAreCounted, WaysOutAreCounted, FarWaysAreCounted, OpenLoopsAreCounted}
+use Rattle.cycle_bound.specs.WorkedRules.{WritesAreCounted, BranchesAreCounted, ConditionsAreCounted, EntrancesAreCounted}
+use Rattle.cycle_bound.specs.WorkedRules.{FaultsAreWorked, SpansAreWorked}
 use Rattle.scopes.specs.declared.worked.TheConstants.{HALVED_OPEN}
-
-reaches_itself : (numbers : List ℕ) → Reaches numbers numbers
-reaches_itself [] = tt
-reaches_itself (number ∷ numbers) = (omega arith, reaches_itself numbers)
+use Rattle.cycle_bound.proofs.Leasts.{reaches_itself}
 
 least : (setting : Setting) (tree : Tree) (numbers : List ℕ) → asked setting nowhere 0 tree numbers ≡ numbers →
     AreLeast setting tree numbers
@@ -34,9 +33,9 @@ loops = record {
 
 open_loops : OpenLoopsAreCounted
 open_loops = record {
-  none = least (opened 0) (tree_of HALVED_OPEN.now) _ refl;
-  two = least (opened 2) (tree_of HALVED_OPEN.now) _ refl;
-  most = least (opened 300) (tree_of HALVED_OPEN.now) _ refl;
+  none = least (with_turns 0) (tree_of HALVED_OPEN.now) _ refl;
+  two = least (with_turns 2) (tree_of HALVED_OPEN.now) _ refl;
+  most = least (with_turns 300) (tree_of HALVED_OPEN.now) _ refl;
   more = (lit≤ tt, (lit≤ tt, (lit≤ tt, (lit≤ tt, tt))));
   once = λ h. (let e : 16 ≤ 8 = h.0 in omega arith);
   fewer = λ h. (let e : 24 ≤ 16 = h.0 in omega arith);

@@ -1,5 +1,6 @@
 -- What is told of numbers that the rules don't admit. This is the project's own.
-use Rattle.std.specs.Prelude.{◌≡◌, ◌≢◌, ℕ, ◌+◌, ◌<◌, ◌≤◌, min, Option, Some, None, Result, Ok, Err, List, length, get_or}
+use Rattle.std.specs.Prelude.{◌≡◌, ◌≢◌, ℕ, ◌+◌, ◌<◌, ◌≤◌, min, Option, Some, None, Result, Ok, Err}
+use Rattle.std.specs.Prelude.{List, length, get_or}
 use Rattle.scopes.specs.Trees.{Tree}
 use Rattle.cycle_bound.specs.declared.checks.CertFault.{CertFault}
 use Rattle.cycle_bound.specs.declared.checks.CertKind.{CertKind}
@@ -15,11 +16,15 @@ voice_nodes (Some block) = nodes block
 abbrev pub call_nodes : Tree → Option Tree → ℕ
 call_nodes first voice = 1 + (nodes first + voice_nodes voice)
 
+-- the number at a place
+abbrev pub at_place : List ℕ → ℕ → ℕ
+at_place numbers place = get_or numbers place 0
+
 -- the first place whose number doesn't reach what is asked there
 pub record IsShort (least numbers : List ℕ) (place : ℕ) : Type 0 where
   pub there : place < length numbers
-  pub short : get_or numbers place 0 < get_or least place 0
-  pub before : (other : ℕ) → other < place → get_or least other 0 ≤ get_or numbers other 0
+  pub short : at_place numbers place < at_place least place
+  pub before : (other : ℕ) → other < place → at_place least other ≤ at_place numbers other
 
 -- a fault: there are too few or too many, told at the first place that is missing or too much; or there are as many as
 -- there must be, and one is too small

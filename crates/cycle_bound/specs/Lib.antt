@@ -10,3 +10,4 @@ pub mod Spans
 pub mod WorkedRules
 -- Of what the code has.
 pub mod Lines
+pub mod Private

@@ -24,8 +24,8 @@ none = record { holds = λ condition. false; open_turns = 0 }
 abbrev pub only : ℕ → Setting
 only one = record none { holds = λ condition. nat_eq condition one }
 
-abbrev pub opened : ℕ → Setting
-opened turns = record none { open_turns = turns }
+abbrev pub with_turns : ℕ → Setting
+with_turns turns = record none { open_turns = turns }
 
 -- each number is as great as its rule asks, and no greater
 abbrev pub AreLeast : Setting → Tree → List ℕ → Type 0
@@ -75,12 +75,12 @@ pub record FarWaysAreCounted : Type 0 where
 -- An open loop counts as often as the setting says, and at most 255 times; where it has no turn nothing but its way out is
 -- counted. A turn takes at most 8: LSR 2, DEY 2, and a branch that is taken 4.
 pub record OpenLoopsAreCounted : Type 0 where
-  pub none : AreLeast (opened 0) (tree_of HALVED_OPEN.now) (0 ∷ 8 ∷ 6 ∷ 4 ∷ [])
-  pub two : AreLeast (opened 2) (tree_of HALVED_OPEN.now) (16 ∷ 8 ∷ 6 ∷ 4 ∷ [])
-  pub most : AreLeast (opened 300) (tree_of HALVED_OPEN.now) (2040 ∷ 8 ∷ 6 ∷ 4 ∷ [])
-  pub more : Admits (opened 2) (tree_of HALVED_OPEN.now) (2040 ∷ 8 ∷ 6 ∷ 4 ∷ [])
-  pub once : ¬ Admits (opened 2) (tree_of HALVED_OPEN.now) (8 ∷ 8 ∷ 6 ∷ 4 ∷ [])
-  pub fewer : ¬ Admits (opened 3) (tree_of HALVED_OPEN.now) (16 ∷ 8 ∷ 6 ∷ 4 ∷ [])
+  pub none : AreLeast (with_turns 0) (tree_of HALVED_OPEN.now) (0 ∷ 8 ∷ 6 ∷ 4 ∷ [])
+  pub two : AreLeast (with_turns 2) (tree_of HALVED_OPEN.now) (16 ∷ 8 ∷ 6 ∷ 4 ∷ [])
+  pub most : AreLeast (with_turns 300) (tree_of HALVED_OPEN.now) (2040 ∷ 8 ∷ 6 ∷ 4 ∷ [])
+  pub more : Admits (with_turns 2) (tree_of HALVED_OPEN.now) (2040 ∷ 8 ∷ 6 ∷ 4 ∷ [])
+  pub once : ¬ Admits (with_turns 2) (tree_of HALVED_OPEN.now) (8 ∷ 8 ∷ 6 ∷ 4 ∷ [])
+  pub fewer : ¬ Admits (with_turns 3) (tree_of HALVED_OPEN.now) (16 ∷ 8 ∷ 6 ∷ 4 ∷ [])
 
 -- what is written by an index takes no more in another page; and nothing is behind what is never come to
 pub record WritesAreCounted : Type 0 where
@@ -155,7 +155,8 @@ abbrev pub voices_told : List ℕ → Result ℕ CertFault → Type 0
 voices_told numbers told = IsChecked (setting_at 0 voices_entrance.entrance) voices_entrance.entrance.first
     voices_entrance.entrance.voice numbers told
 
--- A number is too small by those behind it, be these as they may. The first fault is told, and one in the number of lines before one in a number
+-- A number is too small by those behind it, be these as they may. The first fault is told, and one in how many there are
+-- before one in a number.
 pub record FaultsAreWorked : Type 0 where
   pub least : volume_told (4 ∷ 4 ∷ []) (Ok 4)
   pub raised : volume_told (9 ∷ 4 ∷ []) (Ok 9)

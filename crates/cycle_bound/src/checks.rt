@@ -3,14 +3,15 @@
 ghost use Rattle.std.specs.Prelude.{◌≡◌, ◌+◌, ◌<◌, ◌≤◌, ◌^◌, true, length};
 ghost use Rattle.std.specs.Option.{option_copied, option_map};
 ghost use Rattle.scopes.specs.Trees.{opened, led, tree_of};
-ghost use Rattle.scope_lines.specs.Readings.{first_of, behind_of, are_open, is_block};
+ghost use Rattle.scope_lines.specs.Readings.{first_of, are_open, is_block};
 ghost use Rattle.scope_calls.specs.Written.{is_voice};
-ghost use Rattle.cycle_bound.specs.Rules.{entry, nodes, asked, nowhere};
+ghost use Rattle.cycle_bound.specs.Rules.{entry, behind_first, nodes, asked, nowhere};
 ghost use Rattle.cycle_bound.specs.EntranceRules.{voice_most, voice_asked, call_asked};
 ghost use Rattle.cycle_bound.specs.Faults.{IsChecked, voice_nodes, call_nodes};
-ghost use Rattle.cycle_bound.specs.Lines.{ends_of, kept_setting, head_of, rest_of, has_number, short_from};
+ghost use Rattle.cycle_bound.specs.Lines.{ends_of, kept_setting};
+ghost use Rattle.cycle_bound.specs.Private.{line_tree, has_number, short_from};
 
-use crate::lines::{CALLING, Ends, Kept, count, further, furthest, line_asked, turns};
+use crate::lines::{CALLING, Ends, Kept, chosen, count, extent, line_asked, loop_asked};
 use scope_lines::Line;
 
 /// What is wrong with numbers.
@@ -41,26 +42,81 @@ fn first_number(numbers: &[u64], follows: u64) -> u64
     }
 }
 
-/// How many numbers a line and those in it have, and the lines behind.
-fn extent<'a>(line: &Line, rest: &'a [Line]) -> (usize, &'a [Line])
+/// Those behind the first.
+fn behind_first(numbers: &[u64]) -> &[u64]
+    ensures { result.now ≡ behind_first numbers.now }
+{
+    match numbers.split_first() {
+        Some((_, behind)) => behind,
+        None => numbers,
+    }
+}
+
+/// What a line's number must reach, where these are its own and those of the lines in it.
+fn own_asked(
+    line: &Line,
+    rest: &[Line],
+    kept: Kept,
+    ends: &Ends<'_>,
+    next: u64,
+    numbers: &[u64],
+) -> u128
     requires is_open { are_open (led line.now (opened rest.now)) ≡ true }
     requires number { has_number line.now ≡ true }
-    ensures count { result.0 ≡ nodes (head_of (first_of (led line.now (opened rest.now)))) }
-    ensures rest { first_of (opened result.1.now) ≡ rest_of (first_of (led line.now (opened rest.now))) }
-    ensures is_open { are_open (opened result.1.now) ≡ true }
-    ensures few { result.0 + length result.1.now ≤ 1 + length rest.now }
+    requires as_many { length numbers.now ≡ nodes (line_tree line.now rest.now) }
+    ensures { result ≡ entry (asked (kept_setting kept) (ends_of ends.now) next
+        (line_tree line.now rest.now) numbers.now) 0 }
 {
+    let inner = behind_first(numbers);
     match *line {
-        Line::Scope(_) | Line::Loop(_) | Line::When(_) => {
-            let (inner, behind) = count(rest);
-            (1 + inner, behind)
+        Line::Scope(_) => u128::from(first_number(inner, next)),
+        Line::Loop(times) => loop_asked(times, rest, kept, &*ends, next, first_number(inner, 0)),
+        Line::When(condition) => {
+            let number = first_number(inner, next);
+            u128::from(chosen(kept.conditions.hold(condition), number, next))
         }
+        Line::Choose(condition) => {
+            let (this, other) = inner.split_at(count(rest).0);
+            let (this, other) = (first_number(this, next), first_number(other, next));
+            u128::from(chosen(kept.conditions.hold(condition), this, other))
+        }
+        _ => line_asked(line, &*ends, next),
+    }
+}
+
+/// The first place, counted from `place` on, at which the numbers of the lines in a line don't reach what is asked.
+#[cycle(short)]
+fn inner_short(
+    line: &Line,
+    rest: &[Line],
+    kept: Kept,
+    ends: &Ends<'_>,
+    next: u64,
+    numbers: &[u64],
+    place: usize,
+) -> Option<usize>
+    requires is_open { are_open (led line.now (opened rest.now)) ≡ true }
+    requires number { has_number line.now ≡ true }
+    requires as_many { length numbers.now ≡ nodes (line_tree line.now rest.now) }
+    requires room { place + length (behind_first numbers.now) < 2 ^ 64 }
+    ensures { result ≡ short_from place (behind_first (asked (kept_setting kept) (ends_of ends.now) next
+        (line_tree line.now rest.now) numbers.now)) (behind_first numbers.now) }
+{
+    let inner = behind_first(numbers);
+    match *line {
+        Line::Scope(name) => {
+            let inside = Ends::Inside(name, next, &*ends);
+            first_short(rest, kept, &inside, next, inner, place)
+        }
+        Line::Loop(_) => first_short(rest, kept, &Ends::Nowhere, 0, inner, place),
+        Line::When(_) => first_short(rest, kept, &*ends, next, inner, place),
         Line::Choose(_) => {
-            let (this, or) = count(rest);
-            let (other, behind) = count(or);
-            (1 + (this + other), behind)
+            let (count, or) = count(rest);
+            let (this, other) = inner.split_at(count);
+            let short = first_short(rest, kept, &*ends, next, this, place);
+            short.or(first_short(or, kept, &*ends, next, other, place + count))
         }
-        _ => (1, rest),
+        _ => None,
     }
 }
 
@@ -77,66 +133,16 @@ fn line_short(
 ) -> Option<usize>
     requires is_open { are_open (led line.now (opened rest.now)) ≡ true }
     requires number { has_number line.now ≡ true }
-    requires as_many { length numbers.now ≡ nodes (head_of (first_of (led line.now (opened rest.now)))) }
+    requires as_many { length numbers.now ≡ nodes (line_tree line.now rest.now) }
     requires room { place + length numbers.now < 2 ^ 64 }
     ensures { result ≡ short_from place (asked (kept_setting kept) (ends_of ends.now) next
-        (head_of (first_of (led line.now (opened rest.now)))) numbers.now) numbers.now }
+        (line_tree line.now rest.now) numbers.now) numbers.now }
 {
-    let Some((number, inner)) = numbers.split_first() else {
-        return None;
-    };
-    match *line {
-        Line::Scope(name) => {
-            if *number < first_number(inner, next) {
-                return Some(place);
-            }
-            let inside = Ends::Inside(name, next, &*ends);
-            first_short(rest, kept, &inside, next, inner, place + 1)
-        }
-        Line::Loop(times) => {
-            let out = further(next, furthest(rest, kept.conditions, &*ends).0);
-            let turn = u128::from(first_number(inner, 0));
-            if u128::from(*number) < turns(times, kept.open_turns) * turn + u128::from(out) {
-                return Some(place);
-            }
-            first_short(rest, kept, &Ends::Nowhere, 0, inner, place + 1)
-        }
-        Line::When(condition) => {
-            let is_kept = kept.conditions.hold(condition);
-            if *number
-                < if is_kept {
-                    first_number(inner, next)
-                } else {
-                    next
-                }
-            {
-                return Some(place);
-            }
-            first_short(rest, kept, &*ends, next, inner, place + 1)
-        }
-        Line::Choose(condition) => {
-            let (count, or) = count(rest);
-            let (this, other) = inner.split_at(count);
-            let is_kept = kept.conditions.hold(condition);
-            if *number < first_number(if is_kept { this } else { other }, next) {
-                return Some(place);
-            }
-            first_short(rest, kept, &*ends, next, this, place + 1).or(first_short(
-                or,
-                kept,
-                &*ends,
-                next,
-                other,
-                place + 1 + count,
-            ))
-        }
-        _ => {
-            if u128::from(*number) < line_asked(line, &*ends, next) {
-                return Some(place);
-            }
-            None
-        }
+    let number = numbers.first()?;
+    if u128::from(*number) < own_asked(line, rest, kept, &*ends, next, numbers) {
+        return Some(place);
     }
+    inner_short(line, rest, kept, &*ends, next, numbers, place + 1)
 }
 
 /// The first place, counted from `place` on, at which the numbers of the lines up to the end of what is open don't reach what
@@ -160,7 +166,7 @@ fn first_short(
     let mut left_numbers = numbers;
     let mut at = place;
     while let Some((line, rest)) = left.split_first() {
-        if matches!(line, Line::End | Line::Or) {
+        if let Line::End | Line::Or = line {
             return None;
         }
         let (count, behind) = extent(line, rest);

@@ -1,19 +1,17 @@
 //! The least numbers that the rules admit.
 
-ghost use Rattle.std.specs.Prelude.{◌≡◌, ◌≤◌, ◌<◌, ◌^◌, ◌++◌, true, length, reverse, OnOk, IfOk};
-ghost use Rattle.scopes.specs.Trees.{opened};
-ghost use Rattle.scope_lines.specs.Readings.{first_of, behind_of, are_open};
+ghost use Rattle.std.specs.Prelude.{◌≡◌, ◌<◌, ◌^◌, ◌++◌, true, reverse, OnOk, IfOk};
 ghost use Rattle.std.specs.Option.{option_copied, option_map};
-ghost use Rattle.scopes.specs.Trees.{tree_of};
-ghost use Rattle.scope_lines.specs.Readings.{is_block};
+ghost use Rattle.scopes.specs.Trees.{opened, led, tree_of};
+ghost use Rattle.scope_lines.specs.Readings.{first_of, are_open, is_block};
 ghost use Rattle.scope_calls.specs.Written.{is_voice};
-ghost use Rattle.cycle_bound.specs.Rules.{entry};
-ghost use Rattle.cycle_bound.specs.Least.{least_of, least_voice, least_all, Fit};
+ghost use Rattle.cycle_bound.specs.Rules.{entry, behind_first};
+ghost use Rattle.cycle_bound.specs.Least.{least, least_of, least_voice, least_all, Fit};
 ghost use Rattle.cycle_bound.specs.EntranceRules.{voice_most};
-ghost use Rattle.cycle_bound.specs.Lines.{written, capped};
 ghost use Rattle.cycle_bound.specs.Lines.{ends_of, kept_setting};
+ghost use Rattle.cycle_bound.specs.Private.{line_tree, has_number};
 
-use crate::lines::{CALLING, Ends, Kept, count, further, furthest, line_asked, turns};
+use crate::lines::{CALLING, Ends, Kept, chosen, count, extent, line_asked, loop_asked};
 use base::{Items, NoMemory};
 use scope_lines::Line;
 use std::alloc::Global;
@@ -21,79 +19,71 @@ use std::alloc::Global;
 /// Numbers of lines, in order.
 pub type Numbers = Items<u64>;
 
-/// A number, or the greatest one where it has no room.
-fn cap(number: u128) -> u64
-    ensures { result ≡ capped number }
+/// Pushes the least numbers of the lines in a line, the last one first, and answers the line's own.
+#[cycle(least)]
+fn push_inner(
+    numbers: &mut Numbers,
+    line: &Line,
+    rest: &[Line],
+    kept: Kept,
+    ends: &Ends<'_>,
+    next: u64,
+) -> Result<u64, NoMemory>
+    requires is_open { are_open (led line.now (opened rest.now)) ≡ true }
+    requires number { has_number line.now ≡ true }
+    requires fit { Fit (least (kept_setting kept) (ends_of ends.now) next (line_tree line.now rest.now)) }
+    ensures numbers { OnOk result (numbers.new ≡ numbers.old ++ reverse
+        (behind_first (least (kept_setting kept) (ends_of ends.now) next (line_tree line.now rest.now)))) }
+    ensures own { IfOk result (λ number.
+        number ≡ entry (least (kept_setting kept) (ends_of ends.now) next (line_tree line.now rest.now)) 0) }
 {
-    u64::try_from(number).unwrap_or(u64::MAX)
+    match *line {
+        Line::Scope(name) => {
+            let inside = Ends::Inside(name, next, &*ends);
+            push_least(&mut *numbers, rest, kept, &inside, next)
+        }
+        Line::Loop(times) => {
+            let turn = push_least(&mut *numbers, rest, kept, &Ends::Nowhere, 0)?;
+            Ok(loop_asked(times, rest, kept, &*ends, next, turn) as u64)
+        }
+        Line::When(condition) => {
+            let inner = push_least(&mut *numbers, rest, kept, &*ends, next)?;
+            Ok(chosen(kept.conditions.hold(condition), inner, next))
+        }
+        Line::Choose(condition) => {
+            let other = push_least(&mut *numbers, count(rest).1, kept, &*ends, next)?;
+            let this = push_least(&mut *numbers, rest, kept, &*ends, next)?;
+            Ok(chosen(kept.conditions.hold(condition), this, other))
+        }
+        _ => Ok(line_asked(line, &*ends, next) as u64),
+    }
 }
 
 /// Pushes the least numbers of the lines up to the end of what is open, the last one first. It answers the first of them, or
-/// what follows where there is none, and the lines behind.
-fn push_least<'a>(
+/// what follows where there is none.
+#[cycle(least)]
+fn push_least(
     numbers: &mut Numbers,
-    lines: &'a [Line],
+    lines: &[Line],
     kept: Kept,
     ends: &Ends<'_>,
     follows: u64,
-) -> Result<(u64, &'a [Line]), NoMemory>
+) -> Result<u64, NoMemory>
     requires is_open { are_open (opened lines.now) ≡ true }
+    requires fit { Fit (least (kept_setting kept) (ends_of ends.now) follows (first_of (opened lines.now))) }
     ensures numbers { OnOk result (numbers.new
-        ≡ numbers.old ++ reverse (written (kept_setting kept) (ends_of ends.now) follows (first_of (opened lines.now)))) }
-    ensures first { IfOk result (λ r. r.0
-        ≡ entry (written (kept_setting kept) (ends_of ends.now) follows (first_of (opened lines.now))) follows) }
-    ensures left { IfOk result (λ r. opened r.1.now ≡ behind_of (opened lines.now)) }
-    ensures shorter { IfOk result (λ r. length r.1.now ≤ length lines.now) }
+        ≡ numbers.old ++ reverse (least (kept_setting kept) (ends_of ends.now) follows (first_of (opened lines.now)))) }
+    ensures first { IfOk result (λ number. number
+        ≡ entry (least (kept_setting kept) (ends_of ends.now) follows (first_of (opened lines.now))) follows) }
 {
-    let Some((line, rest)) = lines.split_first() else {
-        return Ok((follows, lines));
-    };
-    match *line {
-        Line::End | Line::Or => Ok((follows, rest)),
-        Line::Scope(name) => {
-            let (next, left) = push_least(&mut *numbers, count(rest).1, kept, &*ends, follows)?;
-            let inside = Ends::Inside(name, next, &*ends);
-            let (number, _) = push_least(&mut *numbers, rest, kept, &inside, next)?;
+    match lines.split_first() {
+        None | Some((Line::End | Line::Or, _)) => Ok(follows),
+        Some((line, rest)) => {
+            let behind = extent(line, rest).1;
+            let next = push_least(&mut *numbers, behind, kept, &*ends, follows)?;
+            let number = push_inner(&mut *numbers, line, rest, kept, &*ends, next)?;
             numbers.push(number)?;
-            Ok((number, left))
-        }
-        Line::Loop(times) => {
-            let (next, left) = push_least(&mut *numbers, count(rest).1, kept, &*ends, follows)?;
-            let (turn, _) = push_least(&mut *numbers, rest, kept, &Ends::Nowhere, 0)?;
-            let out = further(next, furthest(rest, kept.conditions, &*ends).0);
-            let all = turns(times, kept.open_turns) * u128::from(turn) + u128::from(out);
-            numbers.push(cap(all))?;
-            Ok((cap(all), left))
-        }
-        Line::When(condition) => {
-            let (next, left) = push_least(&mut *numbers, count(rest).1, kept, &*ends, follows)?;
-            let (inner, _) = push_least(&mut *numbers, rest, kept, &*ends, next)?;
-            let number = if kept.conditions.hold(condition) {
-                inner
-            } else {
-                next
-            };
-            numbers.push(number)?;
-            Ok((number, left))
-        }
-        Line::Choose(condition) => {
-            let or = count(rest).1;
-            let (next, left) = push_least(&mut *numbers, count(or).1, kept, &*ends, follows)?;
-            let (other, _) = push_least(&mut *numbers, or, kept, &*ends, next)?;
-            let (this, _) = push_least(&mut *numbers, rest, kept, &*ends, next)?;
-            let number = if kept.conditions.hold(condition) {
-                this
-            } else {
-                other
-            };
-            numbers.push(number)?;
-            Ok((number, left))
-        }
-        _ => {
-            let (next, left) = push_least(&mut *numbers, rest, kept, &*ends, follows)?;
-            let number = cap(line_asked(line, &*ends, next));
-            numbers.push(number)?;
-            Ok((number, left))
+            Ok(number)
         }
     }
 }
@@ -106,8 +96,7 @@ fn push_block(numbers: &mut Numbers, lines: &[Line], kept: Kept) -> Result<u64, 
         ≡ numbers.old ++ reverse (least_of (kept_setting kept) (tree_of lines.now))) }
     ensures first { IfOk result (λ number. number ≡ entry (least_of (kept_setting kept) (tree_of lines.now)) 0) }
 {
-    let (number, _) = push_least(numbers, lines, kept, &Ends::Nowhere, 0)?;
-    Ok(number)
+    push_least(numbers, lines, kept, &Ends::Nowhere, 0)
 }
 
 /// Pushes those of the voices' block, if there is one, and answers what it takes for all voices, with the code that calls it.
@@ -150,7 +139,7 @@ pub fn make(
     let mut numbers = Numbers::new(alloc);
     let voices = push_voice(&mut numbers, voice, kept)?;
     let once = push_block(&mut numbers, first, kept)?;
-    numbers.push(cap(u128::from(once) + voices))?;
+    numbers.push((u128::from(once) + voices) as u64)?;
     let mut numbers = numbers.take();
     numbers.reverse();
     Ok(Numbers::from_vec(numbers))

@@ -3,14 +3,18 @@ use Rattle.std.proofs.Common.{length, ◌≡◌, ◌+◌, ◌*◌, ◌≤◌, �
 use Rattle.scopes.specs.Trees.{opened}
 use Rattle.scope_lines.specs.Readings.{first_of, are_open}
 use Rattle.cycle_bound.specs.Rules.{nodes, asked}
-use Rattle.cycle_bound.specs.Lines.{ends_of, kept_setting, short_from}
+use Rattle.cycle_bound.specs.Lines.{ends_of, kept_setting}
+use Rattle.cycle_bound.specs.Private.{short_from}
 use Rattle.cycle_bound.proofs.checks.+short.Given as goal
 
 abbrev pub decreases-line_short : goal.decreases-line_short
-decreases-line_short l = 2 * length l.rest.now + 1
+decreases-line_short l = 3 * length l.rest.now + 2
+
+abbrev pub decreases-inner_short : goal.decreases-inner_short
+decreases-inner_short l = 3 * length l.rest.now + 1
 
 abbrev pub decreases-first_short : goal.decreases-first_short
-decreases-first_short l = 2 * length l.lines.now
+decreases-first_short l = 3 * length l.lines.now
 
 abbrev pub invariant-first_short-loop-line : goal.invariant-first_short-loop-line
 invariant-first_short-loop-line l = record {

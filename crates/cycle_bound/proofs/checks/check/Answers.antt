@@ -10,22 +10,26 @@ use Rattle.cycle_bound.proofs.checks.check.Goals as goal
 
 pub returns-in-Some : goal.returns-in-Some
 returns-in-Some c =
-    let as_many : length c.args.numbers.now
-    ≡ call_nodes (tree_of c.args.first.now) (option_map tree_of (option_copied c.args.voice)) = search rules in
+    let setting = kept_setting c.args.kept in
+    let first = tree_of c.args.first.now in
+    let voice = option_map tree_of (option_copied c.args.voice) in
+    let numbers = c.args.numbers.now in
+    let as_many : length numbers ≡ call_nodes first voice = search rules in
     let some = sym c.call_short.ensures ∙ c.in-Some.is in (
       as_many,
-      first_short_is (call_asked (kept_setting c.args.kept) (tree_of c.args.first.now) (option_map tree_of (option_copied c.args.voice)) c.args.numbers.now) c.args.numbers.now c.in-Some.place
-          (call_count (kept_setting c.args.kept) (tree_of c.args.first.now) (option_map tree_of (option_copied c.args.voice))
-          c.args.numbers.now ∙ sym as_many) some,
+      first_short_is (call_asked setting first voice numbers) numbers c.in-Some.place
+          (call_count setting first voice numbers ∙ sym as_many) some,
     )
 
 pub returns : goal.returns
 returns c =
-    let as_many : length c.args.numbers.now
-    ≡ call_nodes (tree_of c.args.first.now) (option_map tree_of (option_copied c.args.voice)) = search rules in
+    let setting = kept_setting c.args.kept in
+    let first = tree_of c.args.first.now in
+    let voice = option_map tree_of (option_copied c.args.voice) in
+    let numbers = c.args.numbers.now in
+    let as_many : length numbers ≡ call_nodes first voice = search rules in
     let none = sym c.call_short.ensures ∙ c.in_default.is in (
-      none_reaches 0 (call_asked (kept_setting c.args.kept) (tree_of c.args.first.now) (option_map tree_of (option_copied c.args.voice)) c.args.numbers.now) c.args.numbers.now
-          (call_count (kept_setting c.args.kept) (tree_of c.args.first.now) (option_map tree_of (option_copied c.args.voice))
-          c.args.numbers.now ∙ sym as_many) none,
+      none_reaches 0 (call_asked setting first voice numbers) numbers
+          (call_count setting first voice numbers ∙ sym as_many) none,
       c.first_number.ensures,
     )

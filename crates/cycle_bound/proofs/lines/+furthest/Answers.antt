@@ -2,7 +2,7 @@
 use Rattle.scope_lines.proofs.Laws.{ends_behind}
 use Rattle.cycle_bound.proofs.lines.+furthest.Goals as goal
 
-pub returns-in-End-clause-behind : goal.returns-in-End-clause-behind
-returns-in-End-clause-behind t c =
+pub furthest-returns-in-End-clause-behind : goal.furthest-returns-in-End-clause-behind
+furthest-returns-in-End-clause-behind t c =
     ends_behind _ _ _ _ c.in-Some.ensures.cases.0 c.in-End.is c.loop-line.invariant.is_open
     c.loop-line.invariant.behind
