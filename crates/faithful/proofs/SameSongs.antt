@@ -38,11 +38,11 @@ module _ (image : List ℕ) (address zero_page : ℕ) (o : Options) (song other 
   where
     -- ---- the same calls lead to the same machines
 
-    made_for : (call : ImageCall) (number : ℕ) → IsMade song call number → IsMade other call number
+    pub made_for : (call : ImageCall) (number : ℕ) → IsMade song call number → IsMade other call number
     made_for (Init k) number made = (rw same.count made.0, made.1)
     made_for Play number made = made
 
-    led_for : (calls : List ImageCall) (last : Machine) → LeadTo image address song calls last →
+    pub led_for : (calls : List ImageCall) (last : Machine) → LeadTo image address song calls last →
         LeadTo image address other calls last
     led_for [] last led = led
     led_for (call ∷ earlier) last led =

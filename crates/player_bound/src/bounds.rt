@@ -1,6 +1,7 @@
 //! The numbers of a packed song's program, made and checked.
 
 ghost use Rattle.std.specs.Prelude.{◌≡◌, IfOk};
+ghost use Rattle.cycle_bound.specs.Rules.{bound_by};
 ghost use Rattle.player_bound.specs.Programs.{program_blocks, least_init, least_play};
 ghost use Rattle.player_bound.specs.Answers.{AreChecked};
 
@@ -18,6 +19,32 @@ pub struct Certificate {
     pub init: Numbers,
     /// Of play.
     pub play: Numbers,
+}
+
+impl Certificate {
+    ghost use Rattle.std.specs.Prelude.{◌≡◌};
+    ghost use Rattle.cycle_bound.specs.Rules.{bound_by};
+
+    /// The first number of each.
+    pub fn bounds(&self) -> CallBounds
+        ensures init { result.init ≡ bound_by self.now.init }
+        ensures play { result.play ≡ bound_by self.now.play }
+    {
+        CallBounds {
+            init: first_of(self.init.as_slice()),
+            play: first_of(self.play.as_slice()),
+        }
+    }
+}
+
+/// The first of these numbers; 0 where there is none.
+fn first_of(numbers: &[u64]) -> u64
+    ensures { result ≡ bound_by numbers.now }
+{
+    match numbers.first() {
+        Some(number) => *number,
+        None => 0,
+    }
 }
 
 /// The first numbers of both entrances: a call takes at most so many clock cycles, and 11.

@@ -6,7 +6,7 @@
 //! 11 for what stands around it.
 //!
 //! It stands on `cycle_bound` for the rules, on `player_text` for the program's blocks, and on `player_image` for what an
-//! image is. See `docs/scopes.md`.
+//! image is. See `docs/cycles.md`.
 #![tactic(auto)]
 
 mod bounds;

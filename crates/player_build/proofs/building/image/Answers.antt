@@ -13,6 +13,7 @@ use Rattle.image_parts.specs.Lengths.{image_length}
 use Rattle.player_image.specs.Images.{IsImageOf, image_size}
 use Rattle.player_image.specs.ImageLaws.{Stands}
 use Rattle.player_image.proofs.Laws.{images_play, its_size}
+use Rattle.player_bound.proofs.Laws.{images_keep_bounds}
 use Rattle.player_build.specs.declared.place.Place.{Place}
 use Rattle.player_build.specs.declared.image.PartSpan.{PartSpan}
 use Rattle.player_build.specs.Built.{IsBuild}
@@ -59,6 +60,8 @@ module _ (packed : PackedSong) (place : Place) (o : Options) (counts : KeepsCoun
         parts = is_parts packed o (length bytes) speeds code parts code_is long speeds_are spans;
         plays = λ song stand.
             images_play packed song o place.address place.zero_page bytes image (stands bytes image size) stand;
+        bounded = λ song stand.
+            images_keep_bounds packed song o place.address place.zero_page bytes image (stands bytes image size) stand;
       }
 
 pub image_of-requires-clause-fits : goal.image_of-requires-clause-fits
