@@ -1,7 +1,8 @@
 -- Lines of numbers, and what a text begins with.
-use Rattle.std.proofs.Common.{◌≡◌, ℕ, zero, suc, ◌+◌, ◌<◌, ◌^◌, ◌++◌, ◌==◌, Some, List, [], ◌∷◌, length, take, drop, get_or}
+use Rattle.std.proofs.Common.{◌≡◌, ℕ, zero, suc, ◌+◌, ◌*◌, ◌<◌, ◌≤◌, ◌^◌, lit<, length-append, ◌++◌, ◌==◌, Some, List, [], ◌∷◌, length, take, drop, get_or}
 use Rattle.std.proofs.Common.{position, decimal, refl, sym, ap, subst, ◌∙◌, arith}
 use Rattle.std.proofs.lemmas.Bool.{eqb-true}
+use Rattle.std.proofs.lemmas.Fmt.{length-decimal-le}
 use Rattle.std.proofs.lemmas.List.{append_assoc}
 use Rattle.std.proofs.lemmas.List.Quantifiers.{position-Some}
 use Rattle.cycle_bound.specs.Least.{Fit}
@@ -71,3 +72,22 @@ line_read text left numbers end number is place line =
     (append_assoc (numbers_text numbers) (decimal number ++ 10 ∷ []) (drop (end + 1) left)
     ∙ ap (λ l. numbers_text numbers ++ l) (append_assoc (decimal number) (10 ∷ []) (drop (end + 1) left)))
     ∙ ap (λ l. l ++ drop (end + 1) left) (sym (one_more numbers number))))
+
+-- ---- two lists
+
+pub texts_join : (one two : List ℕ) → numbers_text (one ++ two) ≡ numbers_text one ++ numbers_text two
+texts_join [] two = refl
+texts_join (number ∷ one) two =
+    ap (λ t. decimal number ++ 10 ∷ t) (texts_join one two)
+    ∙ sym (append_assoc (decimal number) (10 ∷ numbers_text one) (numbers_text two))
+
+-- ---- how long a text is
+
+-- at most 20 digits and the line feed for each
+pub text_is_short : (numbers : List ℕ) → Fit numbers → length (numbers_text numbers) ≤ 21 * length numbers
+text_is_short [] fit = omega arith
+text_is_short (number ∷ numbers) fit =
+    let rest = text_is_short numbers fit.1 in
+    let digits = length-decimal-le 20 number (lit< tt) (omega arith) fit.0 in
+    let all = length-append (decimal number) (10 ∷ numbers_text numbers) in
+    omega (arith, rest, digits, all)

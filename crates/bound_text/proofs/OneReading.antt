@@ -9,7 +9,7 @@ use Rattle.std.proofs.lemmas.Fmt.{decimal-digits_of, decimal_digit, decimal_inje
 use Rattle.std.specs.Int.Digits.{digits_of}
 use Rattle.cycle_bound.specs.Least.{Fit}
 use Rattle.bound_text.specs.Texts.{numbers_text}
-use Rattle.bound_text.specs.TextLaws.{TextsHaveNoBadLine, TextsAreOfOneList}
+use Rattle.bound_text.specs.TextLaws.{TextsHaveNoBadLine, TextsAreOfOneList, OneBadLine}
 
 -- ---- digits
 
@@ -76,6 +76,11 @@ texts_are_of_one_list (first ∷ one) (second ∷ two) a b e =
 
 -- ---- no bad line
 
+-- a line in front of a text that goes on
+line_assoc : (x y z : List ℕ) → (x ++ 10 ∷ y) ++ z ≡ x ++ 10 ∷ (y ++ z)
+line_assoc [] y z = refl
+line_assoc (byte ∷ x) y z = ap (λ l. byte ∷ l) (line_assoc x y z)
+
 -- what stands behind the first numbers of a text of numbers is such a text, or nothing
 record Left (all rest : List ℕ) : Type 0 where
   numbers : List ℕ
@@ -85,20 +90,12 @@ record Left (all rest : List ℕ) : Type 0 where
 left_of : (all front rest : List ℕ) → Fit all → Fit front → numbers_text all ≡ numbers_text front ++ rest → Left all rest
 left_of all [] rest a b e = record { numbers = all; fit = a; are = sym e }
 left_of [] (number ∷ front) rest a b e =
-    absurd (no_front (decimal number) (numbers_text front ++ rest) (e ∙ assoc (decimal number) (numbers_text front) rest))
-  where
-    assoc : (x y z : List ℕ) → (x ++ 10 ∷ y) ++ z ≡ x ++ 10 ∷ (y ++ z)
-    assoc [] y z = refl
-    assoc (byte ∷ x) y z = ap (λ l. byte ∷ l) (assoc x y z)
+    absurd (no_front (decimal number) (numbers_text front ++ rest) (e ∙ line_assoc (decimal number) (numbers_text front) rest))
 left_of (first ∷ all) (second ∷ front) rest a b e =
     let same = line_same (decimal first) (decimal second) (numbers_text all) (numbers_text front ++ rest)
-    (clean_decimal first a.0) (clean_decimal second b.0) (e ∙ assoc (decimal second) (numbers_text front) rest) in
+    (clean_decimal first a.0) (clean_decimal second b.0) (e ∙ line_assoc (decimal second) (numbers_text front) rest) in
     let more = left_of all front rest a.1 b.1 same.back in
     record { numbers = more.numbers; fit = more.fit; are = more.are }
-  where
-    assoc : (x y z : List ℕ) → (x ++ 10 ∷ y) ++ z ≡ x ++ 10 ∷ (y ++ z)
-    assoc [] y z = refl
-    assoc (byte ∷ x) y z = ap (λ l. byte ∷ l) (assoc x y z)
 
 -- where its first line feed is
 clean_before : (bytes more : List ℕ) (place : ℕ) → Clean bytes → place < length bytes →
@@ -119,18 +116,46 @@ place_is bytes more clean =
     (λ some. ap (λ byte. byte == 10) (get_or-append_seam bytes 10 more 0)) in
     rw (first, lt-ltb (length bytes) (length (bytes ++ 10 ∷ more)) inside) refl
 
-none_left : (rest numbers : List ℕ) → Fit numbers → rest ≡ numbers_text numbers → 0 < length rest →
-    ((end number : ℕ) → position (λ byte. byte == 10) rest ≡ Some end → number < 2 ^ 64 →
-    ¬ (take end rest ≡ decimal number)) → ⊥
-none_left rest [] fit is some bad =
-    let none = ap length is in omega (arith, none, some)
-none_left rest (number ∷ more) fit is some bad =
+-- no rest that is left has a number's line in front
+abbrev IsBadRest : List ℕ → Type 0
+IsBadRest rest =
+    (end number : ℕ) → position (λ byte. byte == 10) rest ≡ Some end → number < 2 ^ 64 → ¬ (take end rest ≡ decimal number)
+
+in_front : (rest more : List ℕ) (number : ℕ) → number < 2 ^ 64 → rest ≡ decimal number ++ 10 ∷ more →
+    IsBadRest rest → ⊥
+in_front rest more number few is bad =
     bad (length (decimal number)) number
-    (ap (λ r. position (λ byte. byte == 10) r) is
-    ∙ place_is (decimal number) (numbers_text more) (clean_decimal number fit.0)) fit.0
-    (ap (λ r. take (length (decimal number)) r) is ∙ take-append_seam (decimal number) (10 ∷ numbers_text more))
+    (ap (λ r. position (λ byte. byte == 10) r) is ∙ place_is (decimal number) more (clean_decimal number few)) few
+    (ap (λ r. take (length (decimal number)) r) is ∙ take-append_seam (decimal number) (10 ∷ more))
+
+none_left : (rest numbers : List ℕ) → Fit numbers → rest ≡ numbers_text numbers → 0 < length rest → IsBadRest rest → ⊥
+none_left rest [] fit is some bad = let none = ap length is in omega (arith, none, some)
+none_left rest (number ∷ more) fit is some bad = in_front rest (numbers_text more) number fit.0 is bad
 
 pub texts_have_no_bad_line : TextsHaveNoBadLine
 texts_have_no_bad_line numbers line fit bad =
     let left = left_of numbers bad.numbers bad.rest fit bad.fit bad.are in
     none_left bad.rest left.numbers left.fit left.are bad.some bad.bad
+
+-- ---- one bad line
+
+as_many : (one two r s : List ℕ) → Fit one → Fit two → numbers_text one ++ r ≡ numbers_text two ++ s → IsBadRest r →
+    IsBadRest s → length one ≡ length two
+as_many [] [] r s a b e x y = refl
+as_many [] (number ∷ two) r s a b e x y =
+    absurd (in_front r (numbers_text two ++ s) number b.0 (e ∙ line_assoc (decimal number) (numbers_text two) s) x)
+as_many (number ∷ one) [] r s a b e x y =
+    absurd (in_front s (numbers_text one ++ r) number a.0 (sym e ∙ line_assoc (decimal number) (numbers_text one) r) y)
+as_many (first ∷ one) (second ∷ two) r s a b e x y =
+    let same = line_same (decimal first) (decimal second) (numbers_text one ++ r) (numbers_text two ++ s)
+    (clean_decimal first a.0) (clean_decimal second b.0)
+    (sym (line_assoc (decimal first) (numbers_text one) r) ∙ e ∙ line_assoc (decimal second) (numbers_text two) s) in
+    let more = as_many one two r s a.1 b.1 same.back x y in
+    omega (arith, more)
+
+pub one_bad_line : OneBadLine
+one_bad_line text one two p q =
+    let more = as_many p.numbers q.numbers p.rest q.rest p.fit q.fit (sym p.are ∙ q.are) p.bad q.bad in
+    let here = p.place in
+    let there = q.place in
+    omega (arith, more, here, there)

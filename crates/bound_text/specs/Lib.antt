@@ -2,3 +2,5 @@
 pub mod Texts
 -- Claimed: what holds of it.
 pub mod TextLaws
+-- Worked by hand.
+pub mod WorkedTexts

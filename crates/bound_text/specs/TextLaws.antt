@@ -11,3 +11,7 @@ TextsHaveNoBadLine = (numbers : List ℕ) (line : ℕ) → Fit numbers → ¬ Is
 abbrev pub TextsAreOfOneList : Type 0
 TextsAreOfOneList =
     (one two : List ℕ) → Fit one → Fit two → numbers_text one ≡ numbers_text two → one ≡ two
+
+-- a text has one bad line at most
+abbrev pub OneBadLine : Type 0
+OneBadLine = (text : List ℕ) (one two : ℕ) → IsBadLine text one → IsBadLine text two → one ≡ two

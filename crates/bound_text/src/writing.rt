@@ -1,10 +1,9 @@
 //! From numbers to their text.
 
-ghost use Rattle.std.specs.Prelude.{◌≡◌, ◌++◌, ◌∷◌, [], decimal, OnOk, IfOk};
+ghost use Rattle.std.specs.Prelude.{◌≡◌, ◌++◌, ◌∷◌, [], decimal, OnOk};
 ghost use Rattle.bound_text.specs.Texts.{numbers_text};
 
 use base::NoMemory;
-use std::alloc::Global;
 
 /// Appends a number's line.
 fn push_line(text: &mut Vec<u8>, number: u64) -> Result<(), NoMemory>
@@ -16,17 +15,16 @@ fn push_line(text: &mut Vec<u8>, number: u64) -> Result<(), NoMemory>
     Ok(())
 }
 
-/// The text of numbers: each in decimal, with a line feed behind it.
+/// Appends the text of numbers: each in decimal, with a line feed behind it.
 ///
 /// # Errors
 ///
 /// Out of memory.
-pub fn text_of(alloc: Global, numbers: &[u64]) -> Result<Vec<u8>, NoMemory>
-    ensures { IfOk result (λ text. text.items ≡ numbers_text numbers.now) }
+pub fn push_text(text: &mut Vec<u8>, numbers: &[u64]) -> Result<(), NoMemory>
+    ensures { OnOk result (text.new.items ≡ text.old.items ++ numbers_text numbers.now) }
 {
-    let mut text = Vec::new(alloc);
     for number in numbers {
-        push_line(&mut text, *number)?;
+        push_line(&mut *text, *number)?;
     }
-    Ok(text)
+    Ok(())
 }

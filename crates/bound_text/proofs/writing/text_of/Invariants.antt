@@ -1,7 +1,0 @@
--- The numbers whose lines are there.
-use Rattle.std.proofs.Common.{◌≡◌, take}
-use Rattle.bound_text.specs.Texts.{numbers_text}
-use Rattle.bound_text.proofs.writing.text_of.Given as goal
-
-abbrev pub invariant-loop-number : goal.invariant-loop-number
-invariant-loop-number l = l.text.items ≡ numbers_text (take l.number-index l.numbers)
