@@ -17,7 +17,7 @@ use Rattle.command_line.specs.declared.chip.Chip.{Chip}
 use Rattle.command_line.specs.declared.chip.Chip.TheVariants.{Mos6581, Mos8580}
 use Rattle.command_line.specs.declared.topics.Topic.{Topic}
 use Rattle.command_line.specs.declared.topics.Topic.TheVariants.{All, Check, Parts, Trace, Pack, Run, Show, Edit, Copy}
-use Rattle.command_line.specs.declared.topics.Topic.TheVariants.{Join, Disasm, Asm, Selftest, Help, Version}
+use Rattle.command_line.specs.declared.topics.Topic.TheVariants.{Join, Disasm, Asm, Selftest, Help, Version, Bound, BoundCheck}
 use Rattle.command_line.specs.Topics.{form_word}
 use Rattle.command_line.specs.Words as asked
 use Rattle.command_line.specs.Words.{Job, texts, format_word, skip_word, system_word, chip_word, IsAddressWord}
@@ -222,6 +222,8 @@ topic_in [] = All
 topic_in (word ∷ words) =
     if bytes_eq word (codes "check") then Check
     else if bytes_eq word (codes "parts") then Parts
+    else if bytes_eq word (codes "bound") then Bound
+    else if bytes_eq word (codes "bound-check") then BoundCheck
     else if bytes_eq word (codes "trace") then Trace
     else if bytes_eq word (codes "pack") then Pack
     else if bytes_eq word (codes "run") then Run
@@ -240,6 +242,8 @@ told_back : (topic : Topic) → topic_in (option_to_list (form_word topic)) ≡ 
 told_back All = refl
 told_back Check = refl
 told_back Parts = refl
+told_back Bound = refl
+told_back BoundCheck = refl
 told_back Trace = refl
 told_back Pack = refl
 told_back Run = refl
@@ -338,3 +342,17 @@ one_job ws (asked.Parts i x) (asked.Parts i2 x2) p q =
     same_options (cc (p.words_are, q.words_are, v.form, w.form)) v.options_spelled w.options_spelled in
     cc (p.words_are, q.words_are, v.form, w.form, options)
 one_job ws (asked.Parts i x) other p q = absurd (differ ws (asked.Parts i x) other p q refl refl)
+one_job ws (asked.Bound i f x) (asked.Bound i2 f2 x2) p q =
+    let v = p.are_arguments in
+    let w = q.are_arguments in
+    let options : x ≡ x2 =
+    same_options (cc (p.words_are, q.words_are, v.form, w.form)) v.options_spelled w.options_spelled in
+    cc (p.words_are, q.words_are, v.form, w.form, options)
+one_job ws (asked.Bound i f x) other p q = absurd (differ ws (asked.Bound i f x) other p q refl refl)
+one_job ws (asked.BoundCheck i f x) (asked.BoundCheck i2 f2 x2) p q =
+    let v = p.are_arguments in
+    let w = q.are_arguments in
+    let options : x ≡ x2 =
+    same_options (cc (p.words_are, q.words_are, v.form, w.form)) v.options_spelled w.options_spelled in
+    cc (p.words_are, q.words_are, v.form, w.form, options)
+one_job ws (asked.BoundCheck i f x) other p q = absurd (differ ws (asked.BoundCheck i f x) other p q refl refl)

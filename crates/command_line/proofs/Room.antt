@@ -2,14 +2,14 @@
 use Rattle.std.proofs.Common.{◌≡◌, ℕ, ◌+◌, ◌≤◌, ◌<◌, ◌^◌, ◌/◌, ◌%◌, List, []}
 use Rattle.std.proofs.Common.{◌∷◌, ◌++◌, flat_map, sum_by, take, get_or, codes, length, decimal, replicate}
 use Rattle.std.proofs.Common.{refl, ap, arith, lit<, lit≤, ◌-◌, length-append}
-use Rattle.std.proofs.lemmas.Fmt.{length-decimal-le}
+use Rattle.std.proofs.lemmas.Fmt.{length-decimal-le, length-decimal-le_wide}
 use Rattle.std.proofs.lemmas.List.Concat.{length-flat_map}
 use Rattle.std.proofs.lemmas.List.Folds.{length-flat_map-take}
 use Rattle.std.proofs.lemmas.List.Sums.{sum_by-cons}
 use Rattle.hex.specs.Hex.{lower_digits, upper_digits, encode_lower}
 use Rattle.hex.proofs.HexLemmas.{length-encode_with}
 use Rattle.command_line.specs.declared.message.Piece.{Piece}
-use Rattle.command_line.specs.declared.message.Piece.TheVariants.{Words, Name, Number, Byte, Address, Features, Sum}
+use Rattle.command_line.specs.declared.message.Piece.TheVariants.{Words, Name, Number, Wide, Byte, Address, Features, Sum}
 use Rattle.command_line.specs.Lines.{byte_digits, address_digits, feature_digits, sum_digits}
 use Rattle.command_line.specs.RegisterText.{register_line, call_digits}
 use Rattle.std.proofs.lemmas.List.{length-replicate}
@@ -19,6 +19,10 @@ use Rattle.command_line.specs.Message.{piece_text, line_of, own_length, name_len
 -- a number of 64 bits has at most 20 digits, an address has four
 pub digits_fit : (n : ℕ) → n < 2 ^ 64 → length (decimal n) ≤ 20
 digits_fit n small = length-decimal-le 20 n (lit< tt) (omega arith) small
+
+-- and so has one that is a little greater
+pub wide_fits : (n : ℕ) → n < 10 ^ 20 → length (decimal n) ≤ 20
+wide_fits n small = length-decimal-le_wide 20 n (lit< tt) small (omega (arith, small))
 
 pub byte_fits : (n : ℕ) → n < 256 → length (decimal n) ≤ 3
 byte_fits n small = length-decimal-le 3 n (lit< tt) (omega arith) (omega (arith, small))
@@ -48,7 +52,7 @@ sum_fits sum =
 pub ten_digits : (n : ℕ) → n < 10 ^ 10 → length (decimal n) ≤ 10
 ten_digits n small = length-decimal-le 10 n (lit< tt) small (omega (arith, small))
 
-pub ruleset pieces_fit = (digits_fit, byte_fits, hex_fits, address_fits, features_fit, sum_fits)
+pub ruleset pieces_fit = (digits_fit, wide_fits, byte_fits, hex_fits, address_fits, features_fit, sum_fits)
 
 -- a line is longer than its first pieces
 pub first_pieces : (pieces : List Piece) (i room : ℕ) (text : List ℕ) (d : Piece) → i < length pieces →
@@ -65,11 +69,12 @@ first_pieces pieces i room text d inside is full =
       length-append (flat_map piece_text pieces) (codes "\n"),
     )
 
--- a short line has at most 96 bytes beside names
+-- a short line has at most 128 bytes beside names
 piece_lengths : (piece : Piece) → length (piece_text piece) ≡ own_length piece + name_length piece
 piece_lengths (Words words) = omega arith
 piece_lengths (Name name) = omega arith
 piece_lengths (Number number) = omega arith
+piece_lengths (Wide number) = omega arith
 piece_lengths (Byte byte) = omega arith
 piece_lengths (Address address) = omega arith
 piece_lengths (Features bits) = omega arith
@@ -84,7 +89,7 @@ lengths (piece ∷ rest) =
     let name = sum_by-cons name_length piece rest in
     omega (arith, piece_lengths piece, lengths rest, text, own, name)
 
-messages_have_room : (pieces : List Piece) → IsShort pieces → length (line_of pieces) ≤ 96 + sum_by name_length pieces
+messages_have_room : (pieces : List Piece) → IsShort pieces → length (line_of pieces) ≤ 128 + sum_by name_length pieces
 messages_have_room pieces short =
     omega (
       arith,
@@ -96,7 +101,7 @@ messages_have_room pieces short =
 
 -- so have the lines of registers
 registers_have_room : (call : ℕ) (registers : List ℕ) → call < 10 ^ 6 → length registers ≡ 25 →
-    length (register_line call registers) ≤ 96
+    length (register_line call registers) ≤ 128
 registers_have_room call registers small all =
     let number = length-decimal-le 6 call (lit< tt) small (omega (arith, small)) in
     let digits = length-append (replicate (6 - length (decimal call)) 0x30) (decimal call) in

@@ -5,7 +5,7 @@ use Rattle.std.specs.Str.{bytes_eq}
 use Rattle.command_line.specs.Topics.{form_word}
 use Rattle.command_line.specs.Words as asked
 use Rattle.command_line.specs.Words.{Job, ArePackArguments, AreTraceArguments, AreRunArguments, AreSelftestArguments}
-use Rattle.command_line.specs.Words.{ArePartsArguments}
+use Rattle.command_line.specs.Words.{ArePartsArguments, AreBoundArguments}
 
 -- a command, and the words after it
 pub record Form : Type 1 where
@@ -83,6 +83,14 @@ form_of (asked.Show input output) = record {
 form_of (asked.Parts input options) = record {
   command = codes "parts";
   has_arguments = λ words. ArePartsArguments words input options;
+}
+form_of (asked.Bound input output options) = record {
+  command = codes "bound";
+  has_arguments = λ words. AreBoundArguments words input output options;
+}
+form_of (asked.BoundCheck input certificate options) = record {
+  command = codes "bound-check";
+  has_arguments = λ words. AreBoundArguments words input certificate options;
 }
 
 abbrev pub command_of : Job → List ℕ

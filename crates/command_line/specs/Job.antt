@@ -19,3 +19,5 @@ job_of (code.Help topic) = asked.Help topic
 job_of code.Version = asked.Version
 job_of (code.Show input output) = asked.Show input.now output.now
 job_of (code.Parts input options) = asked.Parts input.now options
+job_of (code.Bound input output options) = asked.Bound input.now output.now options
+job_of (code.BoundCheck input certificate options) = asked.BoundCheck input.now certificate.now options

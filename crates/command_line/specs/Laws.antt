@@ -10,9 +10,9 @@ use Rattle.command_line.specs.Lines.{no_memory_line}
 abbrev pub WordsNameOneJob : Type 0
 WordsNameOneJob = (words : List (List ℕ)) (a b : Job) → WordsOf words a → WordsOf words b → a ≡ b
 
--- a line has at most 96 bytes beside the names in it: that of a message, that of a call, and `no memory`
+-- a line has at most 128 bytes beside the names in it: that of a message, that of a call, and `no memory`
 pub record LinesHaveRoom : Type 0 where
-  pub messages : (pieces : List Piece) → IsShort pieces → length (line_of pieces) ≤ 96 + sum_by name_length pieces
+  pub messages : (pieces : List Piece) → IsShort pieces → length (line_of pieces) ≤ 128 + sum_by name_length pieces
   pub registers : (call : ℕ) (registers : List ℕ) → call < 10 ^ 6 → length registers ≡ 25 →
-      length (register_line call registers) ≤ 96
-  pub no_memory : length no_memory_line ≤ 96
+      length (register_line call registers) ≤ 128
+  pub no_memory : length no_memory_line ≤ 128

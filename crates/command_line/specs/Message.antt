@@ -3,7 +3,7 @@ use Rattle.std.specs.Prelude.{ℕ, ◌≤◌, List, ◌++◌, flat_map, sum_by, 
 use Rattle.command_line.specs.declared.status.Status.{Status}
 use Rattle.command_line.specs.declared.status.Status.TheVariants as status
 use Rattle.command_line.specs.declared.message.Piece.{Piece}
-use Rattle.command_line.specs.declared.message.Piece.TheVariants.{Words, Name, Number, Byte, Address, Features, Sum}
+use Rattle.command_line.specs.declared.message.Piece.TheVariants.{Words, Name, Number, Wide, Byte, Address, Features, Sum}
 use Rattle.command_line.specs.Lines.{byte_digits, address_digits, feature_digits, sum_digits}
 
 -- the exit status
@@ -23,6 +23,7 @@ number_of status.NoSubtune = 11
 number_of status.NotAPsid = 12
 number_of status.Stopped = 13
 number_of status.NoMemory = 14
+number_of status.NotAdmitted = 16
 number_of status.BadListing = 17
 number_of status.CannotJoin = 18
 
@@ -31,6 +32,7 @@ abbrev pub piece_text : Piece → List ℕ
 piece_text (Words words) = words.now
 piece_text (Name name) = name.now
 piece_text (Number number) = decimal number
+piece_text (Wide number) = decimal number
 piece_text (Byte byte) = byte_digits byte
 piece_text (Address address) = address_digits address
 piece_text (Features bits) = feature_digits bits
@@ -49,9 +51,9 @@ abbrev pub own_length : Piece → ℕ
 own_length (Name name) = 0
 own_length piece = length (piece_text piece)
 
--- with its line feed, the line has at most 96 bytes beside the names in it
+-- with its line feed, the line has at most 128 bytes beside the names in it
 abbrev pub IsShort : List Piece → Type 0
-IsShort pieces = sum_by own_length pieces ≤ 95
+IsShort pieces = sum_by own_length pieces ≤ 127
 
 -- a status, and the pieces of the line that goes with it
 pub record MessageState : Type 0 where

@@ -6,7 +6,7 @@ pub record LineState : Type 0 where
   pub text : List ℕ
   pub room : ℕ
 
--- room for each line of a run with these words: a name among them with 96 bytes around it, or 96 bytes without one
+-- room for each line of a run with these words: a name among them with 128 bytes around it, or 128 bytes without one
 pub record HasRoom (words : List (List ℕ)) (room : ℕ) : Type 0 where
-  pub for_names : All (λ word. length word + 96 ≤ room) words
-  pub for_others : 96 ≤ room
+  pub for_names : All (λ word. length word + 128 ≤ room) words
+  pub for_others : 128 ≤ room

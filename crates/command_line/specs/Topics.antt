@@ -2,7 +2,7 @@
 use Rattle.std.specs.Prelude.{ℕ, List, map, codes, Option, Some, None}
 use Rattle.command_line.specs.declared.topics.Topic.{Topic}
 use Rattle.command_line.specs.declared.topics.Topic.TheVariants.{All, Check, Parts, Trace, Pack, Run, Show, Edit, Copy}
-use Rattle.command_line.specs.declared.topics.Topic.TheVariants.{Join, Disasm, Asm, Selftest, Help, Version}
+use Rattle.command_line.specs.declared.topics.Topic.TheVariants.{Join, Disasm, Asm, Selftest, Help, Version, Bound, BoundCheck}
 use Rattle.command_line.specs.declared.help.songs.TheConstants as songs
 use Rattle.command_line.specs.declared.help.files.TheConstants as files
 use Rattle.command_line.specs.declared.help.others.TheConstants as others
@@ -12,6 +12,8 @@ abbrev pub form_word : Topic → Option (List ℕ)
 form_word All = None
 form_word Check = Some (codes "check")
 form_word Parts = Some (codes "parts")
+form_word Bound = Some (codes "bound")
+form_word BoundCheck = Some (codes "bound-check")
 form_word Trace = Some (codes "trace")
 form_word Pack = Some (codes "pack")
 form_word Run = Some (codes "run")
@@ -30,6 +32,8 @@ abbrev pub help_lines : Topic → List (List ℕ)
 help_lines All = map (λ line. line.now) others.ALL.now
 help_lines Check = map (λ line. line.now) songs.CHECK.now
 help_lines Parts = map (λ line. line.now) songs.PARTS.now
+help_lines Bound = map (λ line. line.now) songs.BOUND.now
+help_lines BoundCheck = map (λ line. line.now) songs.BOUND_CHECK.now
 help_lines Trace = map (λ line. line.now) songs.TRACE.now
 help_lines Pack = map (λ line. line.now) songs.PACK.now
 help_lines Run = map (λ line. line.now) files.RUN.now

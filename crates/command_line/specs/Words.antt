@@ -54,7 +54,8 @@ subtune_limit = 255
 -- that is packed, for which SID it is made. Or to make a song from a number, and to pack, trace and run it. Or to write
 -- a listing of a PSID file's image into another file, or the bytes of a listing. Or to write the songs in two files into
 -- another, as one song. Or to tell of the forms, or the version. Or to write a song as a script into another file, or
--- to tell what it costs when it is packed
+-- to tell what it costs when it is packed. Or to write numbers that bound the cycles of a packed song's calls, or to
+-- check such numbers
 pub data Job : Type 0 where
   Pack : (input output : List ℕ) (psid : Bool) (address zero_page : ℕ) (options : Options)
       (chip : Chip) → Job
@@ -71,6 +72,8 @@ pub data Job : Type 0 where
   Version : Job
   Show : (input output : List ℕ) → Job
   Parts : (input : List ℕ) (options : Options) → Job
+  Bound : (input output : List ℕ) (options : Options) → Job
+  BoundCheck : (input certificate : List ℕ) (options : Options) → Job
 
 -- the word for what is left out of a frame: the effect step, the pulse step where a row is fetched, and the pulse step
 -- between two patterns. The other three choices have none
@@ -170,6 +173,15 @@ pub record ArePartsArguments (arguments : List (List ℕ)) (input : List ℕ) (o
   pub speed_word : List ℕ
   pub form : arguments ≡ input ∷ skip_word ∷ speed_word ∷ []
   pub in_named : input ≢ []
+  pub options_spelled : AreOptionWords (skip_word ∷ speed_word ∷ []) options
+
+-- the arguments are `IN OUT SKIP SPEED`, or `IN CERT SKIP SPEED`
+pub record AreBoundArguments (arguments : List (List ℕ)) (input other : List ℕ) (options : Options) : Type 0 where
+  pub skip_word : List ℕ
+  pub speed_word : List ℕ
+  pub form : arguments ≡ input ∷ other ∷ skip_word ∷ speed_word ∷ []
+  pub in_named : input ≢ []
+  pub other_named : other ≢ []
   pub options_spelled : AreOptionWords (skip_word ∷ speed_word ∷ []) options
 
 -- the numbers of a job are allowed: an image can stand at the address and have the two bytes of page 0, and there are

@@ -7,7 +7,7 @@ pub fn words_name_one_job()
     ensures { WordsNameOneJob }
 {}
 
-/// 96 bytes hold each line beside the names in it, so a line with its room takes no memory.
+/// 128 bytes hold each line beside the names in it, so a line with its room takes no memory.
 pub fn lines_have_room()
     ensures { LinesHaveRoom }
 {}

@@ -2,6 +2,8 @@
 
 /// `asm IN OUT`.
 pub mod asm;
+/// `bound IN OUT SKIP SPEED`, and `bound-check IN CERT SKIP SPEED`.
+pub mod bound;
 /// `check IN`.
 pub mod check;
 /// `copy IN OUT`.

@@ -12,7 +12,7 @@ use std::alloc::Global;
 use std::marker::Model;
 
 /// Room for what stands around a name, and for a line without a name, in bytes.
-const ROOM_FOR_WORDS: usize = 96;
+const ROOM_FOR_WORDS: usize = 128;
 
 /// The digits of a call's number in a line of registers.
 const CALL_DIGITS: usize = 6;
@@ -107,6 +107,10 @@ impl Line {
             Piece::Words(words) => self.add(words.as_bytes()),
             Piece::Name(name) => self.add(name.as_bytes()),
             Piece::Number(number) => {
+                let mut digits = itoa::Buffer::new();
+                self.add(digits.format(*number).as_bytes())
+            }
+            Piece::Wide(number) => {
                 let mut digits = itoa::Buffer::new();
                 self.add(digits.format(*number).as_bytes())
             }

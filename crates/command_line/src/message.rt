@@ -19,6 +19,8 @@ pub enum Piece<'a> {
     Name(&'a str),
     /// A number, in decimal.
     Number(u64),
+    /// One that may not have room in 64 bits, in decimal.
+    Wide(u128),
     /// A byte, as two hexadecimal digits in upper case.
     Byte(u8),
     /// An address, as four hexadecimal digits in upper case.
@@ -36,7 +38,7 @@ impl Default for Piece<'_> {
     }
 }
 
-/// A status and the pieces of its line, which have at most 95 bytes beside names. It takes no memory.
+/// A status and the pieces of its line, which have at most 127 bytes beside names. It takes no memory.
 #[derive(Drop)]
 pub struct Message<'a> {
     status: Status,

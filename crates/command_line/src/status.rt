@@ -36,6 +36,8 @@ pub enum Status {
     Stopped = 13,
     /// Out of memory.
     NoMemory = 14,
+    /// The numbers of a bound aren't admitted.
+    NotAdmitted = 16,
     /// The listing can't be assembled.
     BadListing = 17,
     /// The two songs can't be joined.

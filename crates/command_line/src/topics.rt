@@ -16,6 +16,10 @@ pub enum Topic {
     Check,
     /// `parts`.
     Parts,
+    /// `bound`.
+    Bound,
+    /// `bound-check`.
+    BoundCheck,
     /// `trace`.
     Trace,
     /// `pack`.
@@ -54,6 +58,8 @@ pub fn form_named(word: &str) -> Result<Topic, WordsFault>
     match word {
         "check" => Ok(Topic::Check),
         "parts" => Ok(Topic::Parts),
+        "bound" => Ok(Topic::Bound),
+        "bound-check" => Ok(Topic::BoundCheck),
         "trace" => Ok(Topic::Trace),
         "pack" => Ok(Topic::Pack),
         "run" => Ok(Topic::Run),
@@ -79,6 +85,8 @@ impl Topic {
             Topic::All => others::ALL,
             Topic::Check => songs::CHECK,
             Topic::Parts => songs::PARTS,
+            Topic::Bound => songs::BOUND,
+            Topic::BoundCheck => songs::BOUND_CHECK,
             Topic::Trace => songs::TRACE,
             Topic::Pack => songs::PACK,
             Topic::Run => files::RUN,

@@ -12,7 +12,7 @@ use play_model::Options;
 
 /// The line of words that are of no form: the command, and a word for each form.
 pub const USAGE: &str =
-    "usage: goat check|trace|pack|run|edit|copy|selftest|disasm|asm|join|help|version|show|parts";
+    "usage: goat check|trace|pack|run|edit|copy|selftest|disasm|asm|join|help|version|show|parts|bound|bound-check";
 
 /// What the program is asked to do.
 #[derive(Clone, Copy, Debug)]
@@ -99,6 +99,21 @@ pub enum Job<'a> {
         input: &'a str,
         output: &'a str,
     },
+    /// `bound IN OUT SKIP SPEED`: write into the file OUT numbers that say how many clock cycles a call of the packed song in
+    /// the file IN takes at most.
+    Bound {
+        input: &'a str,
+        output: &'a str,
+        /// What is left out of a frame, and the speed.
+        options: Options,
+    },
+    /// `bound-check IN CERT SKIP SPEED`: check the numbers in the file CERT for the packed song in the file IN.
+    BoundCheck {
+        input: &'a str,
+        certificate: &'a str,
+        /// What is left out of a frame, and the speed.
+        options: Options,
+    },
     /// `parts IN SKIP SPEED`: tell what the song in the file IN costs when it is packed, and why.
     Parts {
         input: &'a str,
@@ -138,6 +153,8 @@ pub fn parse_words(words: &[String]) -> Result<Job<'_>, WordsFault>
         "help" => commands::help::help_job(arguments),
         "version" => commands::version::version_job(arguments),
         "show" => commands::show::show_job(arguments),
+        "bound" => commands::bound::bound_job(arguments),
+        "bound-check" => commands::bound::bound_check_job(arguments),
         "parts" => commands::parts::parts_job(arguments),
         _ => Err(WordsFault),
     }

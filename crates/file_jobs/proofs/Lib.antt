@@ -1,4 +1,5 @@
 -- What the parts of a run come to.
+mod Bounding
 mod Costs
 mod Edited
 mod Joining

@@ -23,8 +23,11 @@ use Rattle.command_line.specs.declared.chip.Chip.{Chip}
 use Rattle.command_line.specs.Last.{Last, Says}
 use Rattle.jobs.specs.Stages.{HasRoomForImage, HoldsSong, IsMet}
 use Rattle.jobs.specs.Endings as ends
+use Rattle.player_bound.specs.Programs.{program_blocks}
+use Rattle.player_bound.specs.BoundLaws.{KeepsBounds}
+use Rattle.player_bound.proofs.Laws.{kept_for}
 use Rattle.jobs.specs.Endings.{Refuses, PacksSong}
-use Rattle.jobs.proofs.Laws.{images_are_bounded}
+use Rattle.jobs.proofs.Laws.{images_are_bounded, one_program}
 use Rattle.song_gen.specs.GeneratedLaws.{IsSmall}
 
 module _ (packed : PackedSong) (song : Song) (o : Options) (packs : PacksSong o packed song) where
@@ -103,6 +106,16 @@ module _ (packed : PackedSong) (song : Song) (o : Options) (packs : PacksSong o 
         size = length_is (length built.bytes) is.size;
         always = always;
         isolated = served.isolated plays.isolated;
+        bounded = λ b has.
+            let same = one_program song o (program_blocks packed o) b
+            (record {
+              packed = packed;
+              packs = record { chosen = packs.chosen; is_for = packs.is_for; is = packs.is };
+              are = refl;
+            }) has in
+            subst (KeepsBounds built.bytes built.place.address song) same
+            (kept_for built.bytes built.place.address built.place.zero_page o song packs.chosen (program_blocks packed o)
+            packs.serves.plays (is.bounded packs.chosen packs.is.stands));
       } in
       let paged = subst (λ z. IsWrittenFile psid built.place.address z song o chip file) page written in
       subst (λ a. IsWrittenFile psid a zero_page song o chip file) there paged

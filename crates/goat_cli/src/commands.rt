@@ -78,5 +78,15 @@ pub fn perform<'a, F: Folder, K: Sink>(
             file_jobs::parts::tell_parts(alloc, input, options, folder, line, out)
         }
         Job::Show { input, output } => file_jobs::show::show_song(alloc, input, output, folder),
+        Job::Bound {
+            input,
+            output,
+            options,
+        } => file_jobs::bound::write_bound(alloc, input, output, options, folder),
+        Job::BoundCheck {
+            input,
+            certificate,
+            options,
+        } => file_jobs::bound::check_bound(alloc, input, certificate, options, folder),
     }
 }

@@ -16,7 +16,7 @@ use Rattle.asm_text.specs.Laying.{listing_at}
 use Rattle.asm_text.specs.Faults.{fault_in, Reads}
 use Rattle.jobs.specs.Calls.{FirstCalls, StopsIn}
 use Rattle.command_line.specs.RegisterText.{register_lines}
-use Rattle.jobs.specs.Lines.{stop_line, wrote_line}
+use Rattle.jobs.specs.Lines.{stop_line}
 use Rattle.command_line.specs.Last.{Last, Says}
 use Rattle.jobs.specs.Stages.{Stage, IsThere, Fits, SpellsSong, CallsReturn, HoldsSong, HoldsPsid, HoldsListing}
 use Rattle.jobs.specs.Stages.{status_of, IsMet, Passes, AllPass, FirstEnds, input_limit}
@@ -106,14 +106,13 @@ module _ {job : Job} {folder between after : FolderState} {files : Files} (sink 
       (counted_on at.stays.counts counted)
 
   -- its file was written, or not
-  pub written : {output file : List ℕ} {last : Last} →
-      Done job files (wrote_line (length file) ∷ []) (Some (output, file)) →
-      WriteEnds output file between after last → JobEnds job last folder after sink sink
+  pub written : {output file line : List ℕ} {last : Last} → Done job files (line ∷ []) (Some (output, file)) →
+      WriteEnds output file line between after last → JobEnds job last folder after sink sink
   written {output} {file} did (ends.wrote says told counted) =
       rw says (done_says (Some (output, file)) did told counted)
-  written {output} {file} did (ends.failed says part counted) =
+  written {output} {file} {line} did (ends.failed says part counted) =
       let part_of = subst (λ t. IsWrittenInPart t after.told output file) at.stays.told part in
-      let lines = wrote_line (length file) ∷ [] in
+      let lines = line ∷ [] in
       rw says (has_last sink at.are_files
       (λ words form.
       stands.write_fault lines output file (outcome.done job form (all_met at) did refl) refl refl part_of)

@@ -12,13 +12,16 @@ use Rattle.song_model.specs.LookUp.{playable_subtunes}
 use Rattle.usage.specs.declared.parts.UsedParts.{UsedParts}
 use Rattle.usage.specs.Parts.{AreUsedParts}
 use Rattle.usage.proofs.Laws.{parts_are_the_songs_lem}
-use Rattle.jobs.specs.Lines.{check_line}
+use Rattle.jobs.specs.Lines.{check_line, bound_line}
+use Rattle.player_bound.specs.declared.bounds.CallBounds.{CallBounds}
+use Rattle.jobs.specs.SongPrograms.{HasProgram}
+use Rattle.jobs.specs.Certificates.{IsAdmittedText}
 use Rattle.jobs.specs.Calls.{FirstCalls}
 use Rattle.command_line.specs.RegisterText.{register_lines}
 use Rattle.jobs.specs.Traces.{first_traces}
 use Rattle.jobs.specs.Stages.{Stage, IsThere, status_of, Ends, AllPass, FirstEnds}
 use Rattle.command_line.specs.Forms.{WordsOf, IsNoForm}
-use Rattle.jobs.specs.Jobs.{Deed, PrintsLines, WritesFile, DoneBy, output_under, about, output_of, stages, Done}
+use Rattle.jobs.specs.Jobs.{Deed, PrintsLines, WritesFile, WritesAndPrints, DoneBy, output_under, about, output_of, stages, Done}
 use Rattle.jobs.specs.Outcome as outcome
 use Rattle.jobs.specs.Outcome.{Outcome}
 use Rattle.jobs.specs.Due as due
@@ -28,7 +31,8 @@ use Rattle.command_line.proofs.Laws.{one_job}
 use Rattle.jobs.specs.Costs.{TellCosts}
 use Rattle.jobs.proofs.Costs.{one_cost_text}
 use Rattle.jobs.proofs.Calls.{one_list}
-use Rattle.jobs.proofs.Passes.{one_song_held, one_psid_held, stage_facts}
+use Rattle.jobs.proofs.OneProgram.{one_program, one_bound}
+use Rattle.jobs.proofs.Passes.{one_file, one_song_held, one_psid_held, stage_facts}
 use Rattle.jobs.proofs.Ends.{first_ends}
 use Rattle.jobs.proofs.Chains.{pass_more}
 
@@ -81,11 +85,13 @@ pub done_under : (deed : Deed) (files : Files) (lines : List (List ℕ)) (write 
     output_under deed ≡ option_map (λ w. w.0) write
 done_under (PrintsLines text) files lines write did = sym (ap (option_map (λ w. w.0)) did.1)
 done_under (WritesFile output holds) files lines write did = sym (ap (option_map (λ w. w.0)) did.2.write_is)
+done_under (WritesAndPrints output holds) files lines write did = sym (ap (option_map (λ w. w.0)) did.2)
 
 abbrev HasOneText : Files → Deed → Type 0
 HasOneText files (PrintsLines text) =
     (lines others : List (List ℕ)) → text files lines → text files others → lines ≡ others
 HasOneText files (WritesFile output holds) = Unit {0}
+HasOneText files (WritesAndPrints output holds) = Unit {0}
 
 -- a song has one line of used parts
 one_check_line : (song : Song) (a b : UsedParts) → AreUsedParts song a → AreUsedParts song b →
@@ -121,6 +127,13 @@ has_one_text files asked.Version other = λ lines others p q. p ∙ sym q
 has_one_text files (asked.Parts input options) other = λ lines others p q.
     let same = one_song_held files input p.0 q.0 p.1 q.1 in
     one_cost_text q.0 options lines others (subst (λ song. TellCosts song options lines) same p.2) q.2
+has_one_text files (asked.BoundCheck input certificate options) other = λ lines others p q.
+    let song = one_song_held files input p.0 q.0 p.4 q.4 in
+    let program = one_program q.0 options p.1 q.1 (subst (λ s. HasProgram s options p.1) song p.5) q.5 in
+    let text = one_file files certificate p.2 q.2 p.6 q.6 in
+    let here = subst (λ b. IsAdmittedText b q.2 p.3) program (subst (λ t. IsAdmittedText p.1 t p.3) text p.7) in
+    p.8 ∙ ap (λ (bounds : CallBounds). bound_line bounds.init bounds.play ∷ []) (one_bound q.1 q.2 p.3 q.3 here q.7)
+    ∙ sym q.8
 has_one_text files _ other = tt
 
 done_once : (deed : Deed) (files : Files) (lines others : List (List ℕ)) → HasOneText files deed →
@@ -128,6 +141,7 @@ done_once : (deed : Deed) (files : Files) (lines others : List (List ℕ)) → H
     DoneBy deed files others None → lines ≡ others
 done_once (PrintsLines text) files lines others once p q = once lines others p.0 q.0
 done_once (WritesFile output holds) files lines others once p q = let wrote = p.2.write_is in absurd (cc (wrote))
+done_once (WritesAndPrints output holds) files lines others once p q = let wrote = p.2 in absurd (cc (wrote))
 
 -- ---- what is due
 

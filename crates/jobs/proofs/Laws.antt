@@ -16,6 +16,8 @@ pub use Rattle.jobs.proofs.PrintedLines.{PrintedSoFar, none_printed, printed_on,
 pub use Rattle.jobs.proofs.PrintedLines.{lines_failed}
 -- what a folder and its counts are after one step and another
 pub use Rattle.jobs.proofs.Told.{as_before, still, stays_itself, stays_on, counted_on}
+-- the program of a song's images is one
+pub use Rattle.jobs.proofs.OneProgram.{one_program}
 -- what a song asks of its player is one set
 pub use Rattle.jobs.proofs.OneAsked.{one_asked}
 -- a song that can be played has a subtune, and how long its image is at most

@@ -16,6 +16,8 @@ mod Longer
 mod Measured
 mod MetPremises
 mod OneAsked
+mod OneProgram
+mod Bounded
 mod Passes
 mod PlayedFiles
 mod Printed

@@ -19,7 +19,7 @@ use Rattle.jobs.specs.Lines.{song_fault_line, unplayable_line, too_large_line, i
 use Rattle.jobs.specs.Lines.{no_subtune_line, script_line, stop_line, listing_line, join_line, script_too_large_line}
 use Rattle.jobs.specs.Stages.{Stage, IsThere, Fits, SpellsSong, CanBePlayed, HasShortPatterns, HasRoomForImage}
 use Rattle.jobs.specs.Stages.{HasPlayableSubtune, CanBeEdited, IsPsid, OffersSubtune, CallsReturn, CanBeAssembled}
-use Rattle.jobs.specs.Stages.{GoTogether, HoldsSong, HoldsPsid, IsMet, Ends, Passes, HasShortScript, script_limit}
+use Rattle.jobs.specs.Stages.{GoTogether, IsAdmitted, HoldsSong, HoldsPsid, IsMet, Ends, Passes, HasShortScript, script_limit}
 use Rattle.play_model.specs.declared.options.Options.{Options}
 use Rattle.play_model.specs.Playable.{IsPlayable, IsRefusedFor}
 use Rattle.play_model.proofs.Laws.{refused_or_playable_lem}
@@ -41,6 +41,9 @@ use Rattle.asm_text.specs.Lines.{IsListing}
 use Rattle.asm_text.specs.Faults.{IsFaultOf}
 use Rattle.asm_text.proofs.Laws.{sound_listings_have_no_fault, texts_read_in_one_way}
 use Rattle.jobs.proofs.Calls.{returned_or_stopped, one_list, one_stop_at, one_reason}
+use Rattle.jobs.specs.SongPrograms.{HasProgram}
+use Rattle.jobs.specs.Certificates.{IsAdmittedText, IsRefusedText}
+use Rattle.jobs.proofs.OneProgram.{one_program, admitted_or_refused, one_refused_line}
 use Rattle.jobs.proofs.OneAsked.{one_asked}
 
 -- a name has one file, which spells one song and is one PSID file
@@ -275,6 +278,20 @@ module _ (files : Files) where
         let two = one_song_held files other p.1 q.1 p.4 q.4 in
         let here = subst (λ song. IsNotJoined q.0 song p.2) two (subst (λ song. IsNotJoined song p.1 p.2) one p.5) in
         p.6 ∙ ap (λ fault. join_line fault ∷ []) (one_join_reason q.0 q.1 p.2 q.2 here q.5) ∙ sym q.6;
+  }
+  stage_facts (IsAdmitted name certificate o) = record {
+    passes = λ met lines ends.
+        let song = one_song_held files name met.0 ends.0 met.4 ends.4 in
+        let program = one_program ends.0 o met.1 ends.1 (subst (λ s. HasProgram s o met.1) song met.5) ends.5 in
+        let text = one_file files certificate met.2 ends.2 met.6 ends.6 in
+        admitted_or_refused ends.1 ends.2 met.3 ends.3
+        (subst (λ b. IsAdmittedText b ends.2 met.3) program (subst (λ t. IsAdmittedText met.1 t met.3) text met.7)) ends.7;
+    once = λ lines others p q.
+        let song = one_song_held files name p.0 q.0 p.4 q.4 in
+        let program = one_program q.0 o p.1 q.1 (subst (λ s. HasProgram s o p.1) song p.5) q.5 in
+        let text = one_file files certificate p.2 q.2 p.6 q.6 in
+        let here = subst (λ b. IsRefusedText b q.2 p.3) program (subst (λ t. IsRefusedText p.1 t p.3) text p.7) in
+        p.8 ∙ ap (λ line. line ∷ []) (one_refused_line q.1 q.2 p.3 q.3 here q.7) ∙ sym q.8;
   }
 
   pub met_passes : (stage : Stage) → IsMet files stage → Passes files stage

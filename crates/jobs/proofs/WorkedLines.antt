@@ -20,6 +20,11 @@ lines_are_worked = record {
   script = refl;
   no_subtune = refl;
   no_memory = refl;
+  bound = refl;
+  great_bound = refl;
+  bad_number = refl;
+  bad_shape = refl;
+  too_small = refl;
   selftest = refl;
 }
 
@@ -106,6 +111,7 @@ statuses_are_worked = record {
   no_return = refl;
   no_listing = refl;
   not_joined = refl;
+  not_admitted = refl;
 }
 
 pub limits_are_worked : LimitsAreWorked
@@ -113,6 +119,9 @@ limits_are_worked = record {
   input = refl;
   script = refl;
   listing = refl;
+  certificate = refl;
+  allowed = refl;
+  around = refl;
   frames = refl;
   subtune = refl;
   number = refl;

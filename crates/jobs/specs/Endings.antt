@@ -3,11 +3,6 @@ use Rattle.std.specs.Prelude.{◌≡◌, ◌≢◌, ℕ, ◌+◌, ◌≤◌, Lis
 use Rattle.std.specs.List.{concat}
 use Rattle.goat_io.specs.Files.{Files, file_of, told_with_file, IsAbsent, IsAbove, IsWrittenInPart}
 use Rattle.song_model.specs.declared.songs.Song.{Song}
-use Rattle.packed_form.specs.declared.packed_songs.PackedSong.{PackedSong}
-use Rattle.play_model.specs.declared.options.Options.{Options}
-use Rattle.cut_pack.specs.Chosen.{IsPackedFor}
-use Rattle.cut_pack.specs.ChosenLaws.{Serves}
-use Rattle.cut_pack.specs.Answers.{IsPackedOf}
 use Rattle.gts5.specs.Spells.{Spells}
 use Rattle.edit_script.specs.Edited.{FailsAt}
 use Rattle.cpu6502.specs.declared.machine.Machine.{Machine}
@@ -15,7 +10,14 @@ use Rattle.cpu6502.specs.declared.stop.CallStop.{CallStop}
 use Rattle.sid_run.specs.State.{RunnerState}
 use Rattle.jobs.specs.Calls.{FirstCalls, MeetsStopAt}
 use Rattle.command_line.specs.RegisterText.{register_lines}
-use Rattle.jobs.specs.Lines.{missing_line, too_long_line, read_fault_line, write_fault_line, script_line, stop_line, wrote_line}
+use Rattle.jobs.specs.Lines.{missing_line, too_long_line, read_fault_line, write_fault_line, script_line, stop_line}
+use Rattle.play_model.specs.declared.options.Options.{Options}
+use Rattle.packed_form.specs.declared.packed_songs.PackedSong.{PackedSong}
+use Rattle.cut_pack.specs.Chosen.{IsPackedFor}
+use Rattle.cut_pack.specs.ChosenLaws.{Serves}
+use Rattle.cut_pack.specs.Answers.{IsPackedOf}
+use Rattle.player_bound.specs.Programs.{Blocks}
+use Rattle.jobs.specs.Certificates.{IsRefusedText}
 use Rattle.command_line.specs.Last.{Last, Says, SaysNothing, SinkFailed, Wants}
 use Rattle.command_line.specs.Words.{Job}
 use Rattle.jobs.specs.Stages.{Stage, SpellsSong, Ends, status_of, input_limit}
@@ -95,13 +97,18 @@ pub record PacksSong (options : Options) (packed : PackedSong) (song : Song) : T
   pub serves : Serves options song chosen
   pub is : IsPackedOf packed chosen
 
--- a file was written, or not
-pub data WriteEnds (name bytes : List ℕ) (before after : FolderState) (last : Last) : Type 0 where
-  wrote : last ≡ Says 0 (wrote_line (length bytes)) → after.told ≡ told_with_file before.told name bytes →
-      Counted 0 before.counts after.counts → WriteEnds name bytes before after last
+-- a text isn't that of numbers that are admitted for a program, or the run is out of memory
+pub data CertificateFails (b : Blocks) (text : List ℕ) (last : Last) : Type 0 where
+  refused : (line : List ℕ) → IsRefusedText b text line → last ≡ Says 16 line → CertificateFails b text last
+  wanting : last ≡ Wants → CertificateFails b text last
+
+-- a file was written, of which this line tells, or not
+pub data WriteEnds (name bytes line : List ℕ) (before after : FolderState) (last : Last) : Type 0 where
+  wrote : last ≡ Says 0 line → after.told ≡ told_with_file before.told name bytes →
+      Counted 0 before.counts after.counts → WriteEnds name bytes line before after last
   failed : last ≡ Says 9 (write_fault_line name) → IsWrittenInPart before.told after.told name bytes →
-      Counted 9 before.counts after.counts → WriteEnds name bytes before after last
-  wanting : last ≡ Wants → FolderStays before after → WriteEnds name bytes before after last
+      Counted 9 before.counts after.counts → WriteEnds name bytes line before after last
+  wanting : last ≡ Wants → FolderStays before after → WriteEnds name bytes line before after last
 
 -- ---- lines one after the other
 

@@ -1,6 +1,6 @@
 -- What belongs to each job: the stages of its run, and what it does where all pass. It is a relation, since the player's
 -- bytes may be chosen.
-use Rattle.std.specs.Prelude.{◌≡◌, ℕ, ◌+◌, ◌-◌, ◌≤◌, List, [], ◌∷◌, Option, Some, None, length}
+use Rattle.std.specs.Prelude.{◌≡◌, ℕ, ◌+◌, ◌-◌, ◌≤◌, List, [], ◌∷◌, ◌++◌, Option, Some, None, length}
 use Rattle.goat_io.specs.Files.{Files}
 use Rattle.song_model.specs.declared.songs.Song.{Song}
 use Rattle.song_model.specs.Canonical.{canonical}
@@ -18,23 +18,30 @@ use Rattle.command_line.specs.Words as asked
 use Rattle.command_line.specs.Words.{Job}
 use Rattle.jobs.specs.Stages.{Stage, IsThere, Fits, SpellsSong, CanBePlayed, HasShortPatterns, HasShortScript}
 use Rattle.jobs.specs.Stages.{HasRoomForImage, HasPlayableSubtune, CanBeEdited, IsPsid, OffersSubtune, CallsReturn}
-use Rattle.jobs.specs.Stages.{CanBeAssembled, GoTogether, HoldsSong, HoldsPsid, HoldsListing, IsEditedIn, input_limit}
-use Rattle.jobs.specs.Stages.{script_limit, listing_limit}
+use Rattle.jobs.specs.Stages.{CanBeAssembled, GoTogether, IsAdmitted, HoldsBytes, HoldsSong, HoldsPsid, HoldsListing}
+use Rattle.jobs.specs.Stages.{IsEditedIn, input_limit, script_limit, listing_limit, certificate_limit}
+use Rattle.jobs.specs.SongPrograms.{HasProgram}
+use Rattle.jobs.specs.Certificates.{IsAdmittedText}
+use Rattle.cycle_bound.specs.Rules.{bound_by}
+use Rattle.player_bound.specs.declared.bounds.CallBounds.{CallBounds}
+use Rattle.player_bound.specs.Programs.{Blocks, least_init, least_play}
+use Rattle.bound_text.specs.Texts.{numbers_text}
 use Rattle.jobs.specs.Packed.{IsWrittenFile, raw_file}
 use Rattle.jobs.specs.Calls.{FirstCalls}
 use Rattle.command_line.specs.RegisterText.{register_lines}
 use Rattle.jobs.specs.Traces.{first_traces}
-use Rattle.jobs.specs.Lines.{wrote_line, check_line, selftest_line}
+use Rattle.jobs.specs.Lines.{wrote_line, check_line, selftest_line, bound_line}
 use Rattle.jobs.specs.Costs.{TellCosts}
 use Rattle.jobs.specs.Selftest.{register_sum, TakesSteps}
 use Rattle.song_script.specs.Shown.{script_of}
 use Rattle.command_line.specs.Topics.{help_lines, version_lines}
 
 -- what a job does that passes all its stages: it prints these lines and writes nothing; or it writes such a file under
--- the name, and prints how many bytes it has
+-- the name, and prints how many bytes it has; or it writes such a file, and prints these lines
 pub data Deed : Type 1 where
   PrintsLines : (Files → List (List ℕ) → Type 0) → Deed
   WritesFile : (output : List ℕ) → (Files → List ℕ → Type 0) → Deed
+  WritesAndPrints : (output : List ℕ) → (Files → List ℕ → List (List ℕ) → Type 0) → Deed
 
 -- this number of calls, init and then play, return, and there is a line for each
 pub record Shows (psid : Psid) (subtune calls : ℕ) (lines : List (List ℕ)) : Type 0 where
@@ -127,6 +134,22 @@ about (asked.Parts input options) = record {
   stages = IsThere input ∷ Fits input input_limit ∷ SpellsSong input ∷ CanBePlayed input ∷ HasShortPatterns input ∷ [];
   does = PrintsLines (λ files lines. (song : Song) × HoldsSong files input song × TellCosts song options lines);
 }
+-- of a song the least numbers are written that bound the clock cycles of its packed song's calls, those of init in front,
+-- and the first ones are told
+about (asked.Bound input output options) = record {
+  stages = IsThere input ∷ Fits input input_limit ∷ SpellsSong input ∷ CanBePlayed input ∷ HasShortPatterns input ∷ [];
+  does = WritesAndPrints output (λ files file lines. (song : Song) × (b : Blocks) × HoldsSong files input song ×
+      HasProgram song options b × (file ≡ numbers_text (least_init b ++ least_play b)) ×
+      (lines ≡ bound_line (bound_by (least_init b)) (bound_by (least_play b)) ∷ []));
+}
+-- of such numbers the first ones are told, where all are admitted
+about (asked.BoundCheck input certificate options) = record {
+  stages = IsThere input ∷ Fits input input_limit ∷ SpellsSong input ∷ CanBePlayed input ∷ IsThere certificate ∷
+      Fits certificate certificate_limit ∷ HasShortPatterns input ∷ IsAdmitted input certificate options ∷ [];
+  does = PrintsLines (λ files lines. (song : Song) × (b : Blocks) × (text : List ℕ) × (bounds : CallBounds) ×
+      HoldsSong files input song × HasProgram song options b × HoldsBytes files certificate text ×
+      IsAdmittedText b text bounds × (lines ≡ bound_line bounds.init bounds.play ∷ []));
+}
 
 abbrev pub stages : Job → List Stage
 stages job = (about job).stages
@@ -135,6 +158,7 @@ stages job = (about job).stages
 abbrev pub output_under : Deed → Option (List ℕ)
 output_under (PrintsLines text) = None
 output_under (WritesFile output holds) = Some output
+output_under (WritesAndPrints output holds) = Some output
 
 abbrev pub output_of : Job → Option (List ℕ)
 output_of job = output_under (about job).does
@@ -148,6 +172,8 @@ pub record Writes (output file : List ℕ) (lines : List (List ℕ)) (write : Op
 abbrev pub DoneBy : Deed → Files → List (List ℕ) → Option (List ℕ × List ℕ) → Type 0
 DoneBy (PrintsLines text) files lines write = text files lines × (write ≡ None)
 DoneBy (WritesFile output holds) files lines write = (file : List ℕ) × holds files file × Writes output file lines write
+DoneBy (WritesAndPrints output holds) files lines write =
+    (file : List ℕ) × holds files file lines × (write ≡ Some (output, file))
 
 abbrev pub Done : Job → Files → List (List ℕ) → Option (List ℕ × List ℕ) → Type 0
 Done job files lines write = DoneBy (about job).does files lines write

@@ -1,6 +1,6 @@
 -- What follows from the definitions: a run has one outcome, each status comes exactly where its
 -- cause is, which songs are packed, and a packed file that is run prints its song.
-use Rattle.std.specs.Prelude.{◌≡◌, ◌≢◌, ℕ, ◌+◌, ◌-◌, ◌<◌, ◌≤◌, ◌↔◌, Bool, true}
+use Rattle.std.specs.Prelude.{◌≡◌, ◌≢◌, ℕ, ◌+◌, ◌-◌, ◌<◌, ◌≤◌, ◌↔◌, ◌++◌, Bool, true}
 use Rattle.std.specs.Prelude.{List, Option, Some, None, Ok, length}
 use Rattle.std.specs.Option.{option_and_then}
 use Rattle.base.specs.Bytes.{AreBytes, IsWord}
@@ -14,6 +14,7 @@ use Rattle.song_join.specs.Joined.{joined}
 use Rattle.play_model.specs.Speeds.{IsSpeed}
 use Rattle.play_model.specs.Frame.{trace_with}
 use Rattle.play_model.specs.declared.options.Options.{Options}
+use Rattle.play_model.specs.declared.options.System.{System}
 use Rattle.play_model.specs.Playable.{IsPlayable}
 use Rattle.play_model.specs.Features.{AreFeatures}
 use Rattle.packing_rules.specs.UsedSets.{UsedSets, AreUsedSets}
@@ -25,7 +26,7 @@ use Rattle.sid_run.specs.State.{loaded}
 use Rattle.psid.specs.declared.header.Psid.{Psid}
 use Rattle.psid.specs.Reading.{psid_read}
 use Rattle.command_line.specs.declared.chip.Chip.{Chip}
-use Rattle.command_line.specs.Words.{Job, Pack, Selftest, Disasm, Asm, Show, Edit}
+use Rattle.command_line.specs.Words.{Job, Pack, Selftest, Disasm, Asm, Show, Edit, Bound, BoundCheck}
 use Rattle.jobs.specs.Calls.{HasSubtune, FirstCalls}
 use Rattle.jobs.specs.Stages.{Stage, CanBePlayed, HasRoomForImage, HoldsSong, HoldsPsid, status_of, Ends, IsMet, Passes}
 use Rattle.jobs.specs.Stages.{AllPass, input_limit}
@@ -38,6 +39,13 @@ use Rattle.jobs.specs.Traces.{first_traces}
 use Rattle.packed_form.specs.ImagePlaces.{IsAddress}
 use Rattle.song_costs.specs.Kinds.{costs_of, all_bytes}
 use Rattle.jobs.specs.Costs.{TellCosts}
+use Rattle.cycle_bound.specs.Rules.{bound_by}
+use Rattle.player_bound.specs.declared.bounds.CallBounds.{CallBounds}
+use Rattle.player_bound.specs.Programs.{Blocks, least_init, least_play}
+use Rattle.player_bound.specs.BoundLaws.{KeepsWithin}
+use Rattle.bound_text.specs.Texts.{numbers_text}
+use Rattle.jobs.specs.SongPrograms.{HasProgram}
+use Rattle.jobs.specs.Certificates.{IsAdmittedText}
 use Rattle.jobs.specs.Packed.{IsLengthOf, IsImageLength, IsWrittenFile}
 use Rattle.jobs.specs.Answers.{IsPackedPsid, AssemblesListing, AsksToMake, HoldsJoined}
 
@@ -56,6 +64,17 @@ abbrev pub OneTextIsPrinted : Type 0
 OneTextIsPrinted = (words : List (List ℕ)) (files : Files) (status other : ℕ) (lines others : List (List ℕ)) →
     ((number : ℕ) → ¬ WordsOf words (Selftest number)) →
     Outcome words files status lines None → Outcome words files other others None → lines ≡ others
+
+-- a song has one program, and what `bound` prints and writes is one
+abbrev pub SongsHaveOneProgram : Type 0
+SongsHaveOneProgram =
+    (song : Song) (options : Options) (b c : Blocks) → HasProgram song options b → HasProgram song options c → b ≡ c
+
+abbrev pub BoundsHaveOneOutcome : Type 0
+BoundsHaveOneOutcome =
+    (files : Files) (input output : List ℕ) (options : Options) (lines others : List (List ℕ))
+    (write other : Option (List ℕ × List ℕ)) → Done (Bound input output options) files lines write →
+    Done (Bound input output options) files others other → (lines ≡ others) × (write ≡ other)
 
 -- ---- each status and its cause
 
@@ -152,7 +171,7 @@ PackedFilesPlay =
     (psid : Psid) × (psid_read file ≡ Ok psid) × HasSubtune psid subtune × (after : Machine) ×
     FirstCalls (loaded psid) (subtune - 1) (frames + 1) (first_traces options song (subtune - 1) (frames + 1)) after
 
--- ---- listings, scripts and joined songs
+-- ---- listings and scripts
 
 -- what `disasm` wrote of a PSID file is a listing that `asm` is asked for, and so gives its image back at its address;
 -- the file's bytes are bytes
@@ -172,6 +191,35 @@ ScriptsMakeSongsAgain =
     AllPass files (stages (Show input script)) → Done (Show input script) files lines write →
     (holds : HoldsSong (files_after files write) empty empty_song) → length holds.bytes ≤ input_limit →
     WordsOf words (Edit empty script output) → AsksToMake words (files_after files write) song output
+
+-- ---- bounds
+
+-- what `bound` wrote of a song beside its file is admitted by `bound-check`, which tells the same of it
+abbrev pub WrittenBoundsAreAdmitted : Type 0
+WrittenBoundsAreAdmitted =
+    (files : Files) (input output : List ℕ) (options : Options) (lines : List (List ℕ))
+    (write : Option (List ℕ × List ℕ)) → input ≢ output → AllPass files (stages (Bound input output options)) →
+    Done (Bound input output options) files lines write →
+    AllPass (files_after files write) (stages (BoundCheck input output options))
+    × Done (BoundCheck input output options) (files_after files write) lines None
+
+-- no call of a file that `pack` writes of a song, for either system, takes more clock cycles than are told of numbers that
+-- are admitted for the song's program, after any calls and whatever the rest of memory holds
+abbrev pub ToldBoundsAreKept : Type 0
+ToldBoundsAreKept =
+    (song : Song) (options : Options) (b : Blocks) (text : List ℕ) (bounds : CallBounds) (system : System) (psid : Bool)
+    (address zero_page : ℕ) (chip : Chip) (file : List ℕ) → HasProgram song options b → IsAdmittedText b text bounds →
+    (written : IsWrittenFile psid address zero_page song (record options { system = system }) chip file) →
+    KeepsWithin written.packed.image address song bounds
+
+-- and the least numbers are such
+abbrev pub LeastTextsAreAdmitted : Type 0
+LeastTextsAreAdmitted =
+    (song : Song) (options : Options) (b : Blocks) → HasProgram song options b → (bounds : CallBounds)
+    × (bounds.init ≡ bound_by (least_init b)) × (bounds.play ≡ bound_by (least_play b))
+    × IsAdmittedText b (numbers_text (least_init b ++ least_play b)) bounds
+
+-- ---- joined songs
 
 -- what a file of two songs holds: the joined song, which plays what each of them plays
 pub record HoldsBoth (first second : Song) (output : List ℕ) (now : Option Files) : Type 0 where

@@ -2,7 +2,9 @@
 pub mod Lines
 pub mod Traces
 pub mod Calls
+pub mod SongPrograms
 pub mod Packed
+pub mod Certificates
 pub mod Selftest
 pub mod Costs
 pub mod Stages

@@ -1,5 +1,5 @@
 -- The lines that tell what became of a job.
-use Rattle.std.specs.Prelude.{ℕ, List, [], ◌∷◌, ◌++◌, codes, decimal}
+use Rattle.std.specs.Prelude.{ℕ, ◌+◌, List, [], ◌∷◌, ◌++◌, codes, decimal}
 use Rattle.command_line.specs.Lines.{line, no_memory_line, address_digits, feature_digits, sum_digits}
 use Rattle.song_model.specs.declared.tables.TableName.{TableName}
 use Rattle.song_model.specs.declared.tables.TableName.TheVariants.{Wave, Pulse, Filter, Speed}
@@ -19,6 +19,8 @@ use Rattle.song_join.specs.declared.faults.JoinFault.{JoinFault}
 use Rattle.song_join.specs.declared.faults.JoinFault.TheVariants as faults
 use Rattle.song_join.specs.declared.faults.JoinFault.TheVariants.{OverLimit, LooseInstrument, LooseSpeed, GateTimer}
 use Rattle.song_join.specs.declared.faults.JoinFault.TheVariants.{NoteBeforeInstrument}
+use Rattle.cycle_bound.specs.declared.checks.CertKind.{CertKind}
+use Rattle.cycle_bound.specs.declared.checks.CertKind.TheVariants.{BadShape, TooSmall}
 use Rattle.asm_text.specs.declared.faults.TextFault.{TextFault}
 use Rattle.asm_text.specs.declared.faults.TextKind.{TextKind}
 use Rattle.asm_text.specs.declared.faults.TextKind.TheVariants as text
@@ -155,6 +157,26 @@ join_line (NoteBeforeInstrument subtune channel) =
     line (codes "cannot join: " ∷ codes "note before instrument in subtune " ∷ decimal subtune ∷ codes " channel " ∷
     decimal channel ∷ [])
 join_line faults.NoMemory = no_memory_line
+
+-- the clock cycles that are allowed for a call beside those of its blocks
+abbrev pub call_allowance : ℕ
+call_allowance = 24
+
+-- for the first numbers of a program's init and play: a call takes at most so many clock cycles, with what is allowed beside
+-- those of its blocks
+abbrev pub bound_line : ℕ → ℕ → List ℕ
+bound_line init play =
+    line (codes "init " ∷ decimal (init + call_allowance) ∷ codes " play " ∷ decimal (play + call_allowance) ∷ [])
+
+-- what is wrong with the numbers of a certificate
+abbrev pub fault_words : CertKind → List ℕ
+fault_words BadShape = codes "bad shape"
+fault_words TooSmall = codes "too small"
+
+-- for a line of a certificate that isn't admitted, with the cause
+abbrev pub certificate_line : ℕ → List ℕ → List ℕ
+certificate_line number words =
+    line (codes "certificate line " ∷ decimal number ∷ codes ": " ∷ words ∷ [])
 
 -- for a file of this length
 abbrev pub wrote_line : ℕ → List ℕ

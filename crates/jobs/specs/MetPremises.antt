@@ -20,7 +20,7 @@ use Rattle.song_model.specs.Silence.{empty_song}
 use Rattle.song_script.specs.Shown.{script_of}
 use Rattle.command_line.specs.declared.chip.Chip.{Chip}
 use Rattle.command_line.specs.declared.topics.Topic.{Topic}
-use Rattle.command_line.specs.Words.{Pack, Run, Asm, Join, Edit, Selftest, Help, Version, Show, Parts}
+use Rattle.command_line.specs.Words.{Pack, Run, Asm, Join, Edit, Selftest, Help, Version, Show, Parts, Bound}
 use Rattle.command_line.specs.Forms.{WordsOf}
 use Rattle.jobs.specs.Stages.{HoldsSong, AllPass, input_limit, script_limit}
 use Rattle.jobs.specs.Jobs.{stages}
@@ -53,6 +53,13 @@ FittingSongsArePacked =
     IsPlayable song → AreUsedSets song used → AreFeatures song features → AreShort song used →
     address + data_size song used + code_bound features options ≤ 0xD000 →
     AllPass files (stages (Pack input output psid address zero_page options chip))
+
+-- and numbers that bound its calls are written where these hold of it
+abbrev pub PlayableSongsAreBounded : Type 0
+PlayableSongsAreBounded =
+    (files : Files) (input output : List ℕ) (options : Options) (song : Song) (used : UsedSets) →
+    (holds : HoldsSong files input song) → length holds.bytes ≤ input_limit → IsPlayable song → AreUsedSets song used →
+    AreShort song used → AllPass files (stages (Bound input output options))
 
 -- the listing of an image under the name that the words have is one that they have assembled, and the longest is read:
 -- that of an image that fills the memory

@@ -16,6 +16,9 @@ use Rattle.kept_lines.specs.Asked.{Asks}
 use Rattle.image_parts.specs.CodeParts.{code_length}
 use Rattle.image_parts.specs.Lengths.{slide_bytes, frequency_bytes}
 use Rattle.cut_pack.specs.Chosen.{IsPackedFor}
+use Rattle.player_bound.specs.Programs.{Blocks}
+use Rattle.player_bound.specs.BoundLaws.{KeepsBounds}
+use Rattle.jobs.specs.SongPrograms.{HasProgram}
 use Rattle.song_costs.specs.Kinds.{read_data}
 use Rattle.command_line.specs.declared.chip.Chip.{Chip}
 use Rattle.command_line.specs.declared.chip.Chip.TheVariants.{Mos6581, Mos8580}
@@ -102,10 +105,12 @@ pub record IsImageLength (song : Song) (options : Options) (count : ℕ) : Type 
   pub length_is : IsLengthOf chosen options count
 
 -- a file that `pack` writes: a packed file, of an image that is as long as that, and that plays the song after any calls,
--- from the first init on each by the image's bytes alone
+-- from the first init on each by the image's bytes alone; and no call of it takes more clock cycles than the numbers say
+-- that are admitted for the song's program
 pub record IsWrittenFile (psid : Bool) (address zero_page : ℕ) (song : Song) (options : Options) (chip : Chip)
     (file : List ℕ) : Type 0 where
   pub packed : IsPackedFile psid address zero_page song options chip file
   pub size : IsImageLength song options (length packed.image)
   pub always : PlaysAlways packed.image address zero_page song options
   pub isolated : IsIsolated packed.image address song
+  pub bounded : (b : Blocks) → HasProgram song options b → KeepsBounds packed.image address song b

@@ -31,6 +31,10 @@ use Rattle.asm_text.specs.Laying.{listing_at}
 use Rattle.asm_text.specs.Faults.{fault_in, IsFaultOf}
 use Rattle.jobs.specs.Calls.{HasSubtune, FirstCalls, StopsIn}
 use Rattle.jobs.specs.Packed.{IsImageLength}
+use Rattle.player_bound.specs.declared.bounds.CallBounds.{CallBounds}
+use Rattle.player_bound.specs.Programs.{Blocks}
+use Rattle.jobs.specs.SongPrograms.{HasProgram}
+use Rattle.jobs.specs.Certificates.{IsAdmittedText, IsRefusedText}
 use Rattle.command_line.specs.RegisterText.{register_lines}
 use Rattle.jobs.specs.Lines.{missing_line, too_long_line, song_fault_line, unplayable_line, too_large_line}
 use Rattle.jobs.specs.Lines.{image_too_large_line, script_too_large_line, script_line, psid_fault_line, no_subtune_line}
@@ -48,6 +52,10 @@ script_limit = 1048576
 abbrev pub listing_limit : ℕ
 listing_limit = 1048576
 
+-- the most bytes of the numbers of a bound
+abbrev pub certificate_limit : ℕ
+certificate_limit = 1048576
+
 -- a condition of the files as they are before the run
 pub data Stage : Type 0 where
   IsThere : (name : List ℕ) → Stage
@@ -64,6 +72,7 @@ pub data Stage : Type 0 where
   CallsReturn : (name : List ℕ) (subtune frames : ℕ) → Stage
   CanBeAssembled : (name : List ℕ) → Stage
   GoTogether : (name other : List ℕ) → Stage
+  IsAdmitted : (name certificate : List ℕ) (options : Options) → Stage
 
 -- the file with the name holds these bytes; spells the song; is this PSID file
 abbrev pub HoldsBytes : Files → List ℕ → List ℕ → Type 0
@@ -208,6 +217,14 @@ rule_of (GoTogether name other) = record {
   status = 18;
   ends = λ files lines. (first : Song) × (second : Song) × (fault : JoinFault) × HoldsSong files name first ×
       HoldsSong files other second × IsRefusedFor first second fault × (lines ≡ join_line fault ∷ []);
+}
+-- the text in the other file is that of numbers that are admitted for the song's program
+rule_of (IsAdmitted name certificate options) = record {
+  asks = λ files. (song : Song) × (b : Blocks) × (text : List ℕ) × (bounds : CallBounds) × HoldsSong files name song ×
+      HasProgram song options b × HoldsBytes files certificate text × IsAdmittedText b text bounds;
+  status = 16;
+  ends = λ files lines. (song : Song) × (b : Blocks) × (text : List ℕ) × (line : List ℕ) × HoldsSong files name song ×
+      HasProgram song options b × HoldsBytes files certificate text × IsRefusedText b text line × (lines ≡ line ∷ []);
 }
 
 -- the status with which a stage ends a run

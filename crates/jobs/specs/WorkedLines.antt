@@ -30,7 +30,9 @@ use Rattle.jobs.specs.Lines.{missing_line, too_long_line, read_fault_line, write
 use Rattle.jobs.specs.Lines.{song_fault_line}
 use Rattle.jobs.specs.Lines.{psid_fault_line, no_subtune_line, stop_line, unplayable_line, too_large_line}
 use Rattle.jobs.specs.Lines.{image_too_large_line, script_too_large_line, check_line, script_line, listing_line}
-use Rattle.jobs.specs.Lines.{join_line, selftest_line}
+use Rattle.jobs.specs.Lines.{join_line, selftest_line, call_allowance, bound_line, certificate_line, fault_words}
+use Rattle.cycle_bound.specs.EntranceRules.{around_cycles}
+use Rattle.cycle_bound.specs.declared.checks.CertKind.TheVariants.{BadShape, TooSmall}
 use Rattle.song_costs.specs.declared.costs.Costs.{Costs}
 use Rattle.song_places.specs.declared.places.Place.TheVariants.{InOrder, InPattern, InInstrument, InWaveTable}
 use Rattle.song_costs.specs.declared.kept.Cause.{Cause}
@@ -42,7 +44,7 @@ use Rattle.jobs.specs.Selftest.{selftest_calls}
 use Rattle.jobs.specs.Stages.{IsThere, Fits, SpellsSong, CanBePlayed, HasShortPatterns, HasShortScript, HasRoomForImage}
 use Rattle.jobs.specs.Stages.{HasPlayableSubtune}
 use Rattle.jobs.specs.Stages.{CanBeEdited, IsPsid, OffersSubtune, CallsReturn, CanBeAssembled, GoTogether, status_of}
-use Rattle.jobs.specs.Stages.{input_limit, script_limit, listing_limit}
+use Rattle.jobs.specs.Stages.{IsAdmitted, input_limit, script_limit, listing_limit, certificate_limit}
 use Rattle.song_facts.specs.Facts.{no_facts}
 
 -- the first n numbers are marked, of so many
@@ -67,7 +69,7 @@ used_parts = record {
 
 -- one line of each kind
 pub record LinesAreWorked : Type 0 where
-  pub usage : usage_line ≡ codes "usage: goat check|trace|pack|run|edit|copy|selftest|disasm|asm|join|help|version|show|parts\n"
+  pub usage : usage_line ≡ codes "usage: goat check|trace|pack|run|edit|copy|selftest|disasm|asm|join|help|version|show|parts|bound|bound-check\n"
   pub missing : missing_line (codes "a.sng") ≡ codes "missing: a.sng\n"
   pub too_long : too_long_line (codes "a.sng") ≡ codes "too long: a.sng\n"
   pub read_fault : read_fault_line (codes "a.sng") ≡ codes "read fault: a.sng\n"
@@ -78,6 +80,11 @@ pub record LinesAreWorked : Type 0 where
   pub script : script_line 12 (codes "no such place") ≡ codes "script line 12: no such place\n"
   pub no_subtune : no_subtune_line 3 2 ≡ codes "no such subtune: 3 of 2\n"
   pub no_memory : no_memory_line ≡ codes "no memory\n"
+  pub bound : bound_line 1508 4035 ≡ codes "init 1532 play 4059\n"
+  pub great_bound : bound_line 18446744073709551615 0 ≡ codes "init 18446744073709551639 play 24\n"
+  pub bad_number : certificate_line 3 (codes "bad number") ≡ codes "certificate line 3: bad number\n"
+  pub bad_shape : certificate_line 1 (fault_words BadShape) ≡ codes "certificate line 1: bad shape\n"
+  pub too_small : certificate_line 907 (fault_words TooSmall) ≡ codes "certificate line 907: too small\n"
   pub selftest : selftest_line 0 8 0x00431937 817435
       ≡ codes "selftest 0: 8 subtunes, 300 frames, sum 00431937, 817435 steps\n"
 
@@ -250,12 +257,17 @@ pub record StatusesAreWorked : Type 0 where
   pub no_return : status_of (CallsReturn (codes "b.sid") 1 300) ≡ 13
   pub no_listing : status_of (CanBeAssembled (codes "b.asm")) ≡ 17
   pub not_joined : status_of (GoTogether (codes "a.sng") (codes "b.sng")) ≡ 18
+  pub not_admitted : status_of (IsAdmitted (codes "a.sng") (codes "a.bound") no_options) ≡ 16
 
 -- the limits in numbers
 pub record LimitsAreWorked : Type 0 where
   pub input : input_limit ≡ 262144
   pub script : script_limit ≡ 1048576
   pub listing : listing_limit ≡ 1048576
+  pub certificate : certificate_limit ≡ 1048576
+  -- and what is allowed for a call beside its blocks, with what that takes
+  pub allowed : call_allowance ≡ 24
+  pub around : around_cycles ≡ 11
   pub frames : frame_limit ≡ 100000
   pub subtune : subtune_limit ≡ 255
   pub number : song_number_limit ≡ 18446744073709551615

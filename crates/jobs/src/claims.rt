@@ -3,19 +3,23 @@
 ghost use Rattle.jobs.specs.Laws.{OutcomesAreDue, OneStatusIsDue, OneTextIsPrinted, StagesPass, PlayableSongsPass};
 ghost use Rattle.jobs.specs.Laws.{StatusesHaveCauses, OnlyLargeImagesAreRefused, SmallSongsArePacked, ImagesAreBounded, NoImageIsLonger};
 ghost use Rattle.jobs.specs.Laws.{CostsAreTheImages, WrittenFilesArePacked, PackedFilesPlay, ListingsGoBack};
-ghost use Rattle.jobs.specs.Laws.{ScriptsMakeSongsAgain, JoinedFilesHoldBoth};
+ghost use Rattle.jobs.specs.Laws.{ScriptsMakeSongsAgain, JoinedFilesHoldBoth, WrittenBoundsAreAdmitted};
+ghost use Rattle.jobs.specs.Laws.{ToldBoundsAreKept, LeastTextsAreAdmitted, SongsHaveOneProgram, BoundsHaveOneOutcome};
 ghost use Rattle.jobs.specs.MetPremises.{StatusesAreOrdinary, FittingSongsArePacked, PackedFilesAreRun};
 ghost use Rattle.jobs.specs.MetPremises.{ListingsAreAssembled, ScriptsAreDone, JoinableSongsAreJoined};
-ghost use Rattle.jobs.specs.MetPremises.{SomeJobsHaveNoStage};
+ghost use Rattle.jobs.specs.MetPremises.{SomeJobsHaveNoStage, PlayableSongsAreBounded};
 ghost use Rattle.jobs.specs.WorkedLines.{LinesAreWorked, CostLinesAreWorked, FaultsAreWorked, ListingFaultsAreWorked};
 ghost use Rattle.jobs.specs.WorkedLines.{JoinFaultsAreWorked, RefusalsAreWorked, StatusesAreWorked, LimitsAreWorked};
 ghost use Rattle.jobs.specs.WorkedLines.{HeadersAreWorked, FlagsAreWorked, LargeImagesAreNotPacked};
 
-/// A run has one outcome at most: one status and one name to write under, and, where nothing is written, one text.
+/// A run has one outcome at most: one status and one name to write under, and, where nothing is written, one text. A song has
+/// one program, and what is written of its bounds, and told, is one.
 pub fn runs_have_one_outcome()
     ensures due { OutcomesAreDue }
     ensures status { OneStatusIsDue }
     ensures text { OneTextIsPrinted }
+    ensures programs { SongsHaveOneProgram }
+    ensures bounds { BoundsHaveOneOutcome }
 {}
 
 /// A stage passes where what it asks for is there.
@@ -61,6 +65,14 @@ pub fn written_files_hold_what_was_read()
     ensures joined { JoinedFilesHoldBoth }
 {}
 
+/// No call of a packed file takes more clock cycles than `bound-check` tells of numbers that it admits for the song; those
+/// that `bound` writes are such, and are told of in the same line.
+pub fn told_bounds_are_kept()
+    ensures kept { ToldBoundsAreKept }
+    ensures least { LeastTextsAreAdmitted }
+    ensures written { WrittenBoundsAreAdmitted }
+{}
+
 /// What the clauses on statuses, packing and running ask for: which statuses are ordinary, that a small song is asked for
 /// no more than fits it, that a packed file is never too long, that the listing of an image is one that is
 /// assembled, that a song's script is done on the empty song, that two songs that can be joined are, and which jobs have no
@@ -68,6 +80,7 @@ pub fn written_files_hold_what_was_read()
 pub fn premises_are_met()
     ensures statuses { StatusesAreOrdinary }
     ensures packed { FittingSongsArePacked }
+    ensures bounded { PlayableSongsAreBounded }
     ensures run { PackedFilesAreRun }
     ensures listing { ListingsAreAssembled }
     ensures script { ScriptsAreDone }

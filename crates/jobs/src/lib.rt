@@ -11,7 +11,8 @@
 //! It stands on `command_line` for words and lines, on `goat_io` for folders and sinks, on `gts5` and `song_model` for
 //! the song, on `edit_history` and `edit_script` for editing it, on `song_script` for its script, on `usage` for what it
 //! uses, on `song_costs` for what it costs, on `play_model` for what it sounds like, on `playroutine` for playing it,
-//! on `song_pack` for packing it, on `image_parts` for how long its image is, on `faithful` for what an image is to do,
+//! on `song_pack` for packing it, on `image_parts` for how long its image is, on `faithful` for what an image is to do, on
+//! `player_bound` and `bound_text` for how many clock cycles its calls take,
 //! on `psid`, `sid_run` and `cpu6502` for PSID files and their calls, on `song_join` for joining songs, on `asm_text` and
 //! `asm6502` for listings, and on `song_gen` for songs that are made from numbers.
 #![tactic(auto)]
@@ -37,5 +38,6 @@ pub use packed_songs::{packed_song, short_song, too_large_image};
 pub use printing::{print, print_lines, put_message, want_memory};
 pub use psid_stages::psid_of;
 pub use stages::{
-    INPUT_LIMIT, parts_of, read_file, read_song, read_song_and_bytes, song_of, write_file,
+    INPUT_LIMIT, parts_of, read_file, read_song, read_song_and_bytes, song_of, write_and_tell,
+    write_file,
 };

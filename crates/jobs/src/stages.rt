@@ -2,7 +2,7 @@
 #![tactic(auto, using(crate::proofs::Room::pieces_fit))]
 
 ghost use Rattle.std.specs.Prelude.{◌≡◌, ◌≢◌, ◌-◌, ◌≤◌, ℕ, List, [], ◌∷◌, codes, Some};
-ghost use Rattle.std.specs.Prelude.{IfOk, IfErr, OnOk, decimal, length};
+ghost use Rattle.std.specs.Prelude.{IfOk, IfErr, OnOk, Ok, decimal, length};
 ghost use Rattle.goat_io.specs.Files.{Files, file_of};
 ghost use Rattle.song_model.specs.LookUp.{IsNumbered, playable_subtunes};
 ghost use Rattle.gts5.specs.Spells.{Spells};
@@ -10,7 +10,7 @@ ghost use Rattle.play_model.specs.Playable.{IsPlayable};
 ghost use Rattle.usage.specs.Parts.{AreUsedParts};
 ghost use Rattle.command_line.specs.Last.{last_of, last_word, Says};
 ghost use Rattle.command_line.specs.Lines.{line};
-ghost use Rattle.jobs.specs.Lines.{song_fault_line, table_word, unplayable_line, no_subtune_line};
+ghost use Rattle.jobs.specs.Lines.{song_fault_line, table_word, unplayable_line, no_subtune_line, wrote_line};
 ghost use Rattle.jobs.specs.Stages.{SpellsSong, CanBePlayed, HasPlayableSubtune, HoldsSong, input_limit};
 ghost use Rattle.jobs.specs.Stands.{folder_state};
 ghost use Rattle.jobs.specs.Endings.{Refuses, WasRead, ReadFails, SongWasRead, SpellingWasRead, SongFails, WriteEnds};
@@ -72,15 +72,35 @@ pub fn write_file<'a, F: Folder>(
     bytes: &[u8],
     folder: &mut F,
 ) -> Result<Report<'a>, Refusal<'a>>
-    ensures { WriteEnds name.now bytes.now (folder_state (F.files folder.old) (F.counts folder.old))
+    ensures { WriteEnds name.now bytes.now (wrote_line (length bytes.now))
+        (folder_state (F.files folder.old) (F.counts folder.old))
+        (folder_state (F.files folder.new) (F.counts folder.new)) (last_word result) }
+{
+    let told = Report::says(&[
+        Piece::Words("wrote "),
+        Piece::Number(bytes.len() as u64),
+        Piece::Words(" bytes"),
+    ]);
+    write_and_tell(name, bytes, told, folder)
+}
+
+/// Writes a file, and reports what is told of it.
+///
+/// # Errors
+///
+/// The device failed, and the file is as before or holds a prefix of the bytes; or out of memory.
+pub fn write_and_tell<'a, F: Folder>(
+    name: &'a str,
+    bytes: &[u8],
+    told: Report<'a>,
+    folder: &mut F,
+) -> Result<Report<'a>, Refusal<'a>>
+    ensures { (line : List ℕ) → last_word (Ok told.entry) ≡ Says 0 line → WriteEnds name.now bytes.now line
+        (folder_state (F.files folder.old) (F.counts folder.old))
         (folder_state (F.files folder.new) (F.counts folder.new)) (last_word result) }
 {
     match folder.write(name, bytes) {
-        Ok(()) => Ok(Report::says(&[
-            Piece::Words("wrote "),
-            Piece::Number(bytes.len() as u64),
-            Piece::Words(" bytes"),
-        ])),
+        Ok(()) => Ok(told),
         Err(WriteFault::Failed) => Err(Refusal::says(
             Status::WriteFault,
             &[Piece::Words("write fault: "), Piece::Name(name)],

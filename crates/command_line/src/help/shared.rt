@@ -6,6 +6,10 @@
 pub const CHECK_FORM: &str = "goat check IN\n";
 /// The form of `parts`.
 pub const PARTS_FORM: &str = "goat parts IN SKIP SPEED\n";
+/// The form of `bound`.
+pub const BOUND_FORM: &str = "goat bound IN OUT SKIP SPEED\n";
+/// The form of `bound-check`.
+pub const BOUND_CHECK_FORM: &str = "goat bound-check IN CERT SKIP SPEED\n";
 /// The form of `trace`.
 pub const TRACE_FORM: &str = "goat trace IN SUBTUNE FRAMES [SKIP SPEED]\n";
 /// The form of `pack`.

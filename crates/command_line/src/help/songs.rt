@@ -47,6 +47,58 @@ pub const PARTS: &[&str] = &[
     NO_MEMORY,
 ];
 
+/// `bound`.
+pub const BOUND: &[&str] = &[
+    BOUND_FORM,
+    "Writes numbers that say how many clock cycles a call of the packed song takes at most, and why.\n",
+    BLANK,
+    SONG,
+    OUT,
+    SKIP,
+    SKIP_OF_A_SONG,
+    SPEED,
+    BLANK,
+    "  0    init N play M\n",
+    USAGE,
+    MISSING,
+    TOO_LONG,
+    READ_FAULT,
+    NOT_A_SONG,
+    UNPLAYABLE,
+    UNPLAYABLE_ORDER,
+    UNPLAYABLE_TABLE,
+    LONG_PATTERN,
+    WRITE_FAULT,
+    SINK_FAULT,
+    NO_MEMORY,
+];
+
+/// `bound-check`.
+pub const BOUND_CHECK: &[&str] = &[
+    BOUND_CHECK_FORM,
+    "Checks numbers that say how many clock cycles a call of the packed song takes at most.\n",
+    BLANK,
+    SONG,
+    "  CERT      a number on each line, at most 1,048,576 bytes\n",
+    SKIP,
+    SKIP_OF_A_SONG,
+    SPEED,
+    BLANK,
+    "  0    init N play M\n",
+    USAGE,
+    MISSING,
+    TOO_LONG,
+    READ_FAULT,
+    NOT_A_SONG,
+    UNPLAYABLE,
+    UNPLAYABLE_ORDER,
+    UNPLAYABLE_TABLE,
+    LONG_PATTERN,
+    "  16   certificate line L: bad number, bad shape, too small\n",
+    SINK_FAULT,
+    NO_MEMORY,
+];
+
 /// `trace`.
 pub const TRACE: &[&str] = &[
     TRACE_FORM,

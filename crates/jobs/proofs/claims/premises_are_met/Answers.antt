@@ -1,3 +1,4 @@
+use Rattle.jobs.proofs.Bounded.{playable_songs_are_bounded}
 use Rattle.jobs.proofs.Fileless.{some_jobs_have_no_stage}
 use Rattle.jobs.proofs.Joining.{joinable_songs_are_joined}
 use Rattle.jobs.proofs.Listed.{listings_are_assembled}
@@ -25,3 +26,6 @@ returns-clause-script c = scripts_are_done
 
 pub returns-clause-fileless : goal.returns-clause-fileless
 returns-clause-fileless c = some_jobs_have_no_stage
+
+pub returns-clause-bounded : goal.returns-clause-bounded
+returns-clause-bounded c = playable_songs_are_bounded
