@@ -5,12 +5,15 @@ Packs each song at $1000 and $FC, and plays each of its subtunes on a machine of
 plays (3000 unless given). Prints how long the image is, and for each subtune the cycles of init, the greatest and the
 mean number of a play, the first call that takes the greatest, and how much of a picture that is: a PAL picture has 312
 raster lines of 63 cycles. Of several subtunes it prints the greatest and the mean of them all, too. A call's cycles are
-those from its first instruction to its RTS; the JSR before it takes 6 more.
+those from its first instruction to its RTS, which it counts; the JSR before it takes 6 more.
 
-After each call the SID's registers must be those of `goat trace`, and nothing may have been written but the image, the
-two bytes of page 0, the stack, the registers, and with a SPEED above 1 the timer; else the status is 1. SONG is a
-GoatTracker 2 song; without one those of demo/ are taken that can be played. PROGRAM is the script goat above this
-folder, which builds the program where it must, unless it is given.
+Beside them it prints the cycles that `goat bound` tells of the song with the same options, and how many times the
+greatest measured init and play they are. No measured call may take more. After each call the SID's registers must be
+those of `goat trace`, and nothing may have been written but the image, the two bytes of page 0, the stack, the
+registers, and with a SPEED above 1 the timer. Else the status is 1.
+
+SONG is a GoatTracker 2 song; without one those of demo/ are taken that can be played. PROGRAM is the script goat above
+this folder, which builds the program where it must, unless it is given.
 """
 import argparse
 import os
@@ -59,6 +62,17 @@ def packed(program, song, options):
     return data[0x7E:], int.from_bytes(data[0x0E:0x10], "big")
 
 
+def told(program, song, options):
+    """The cycles that a call of init and one of play take at most, as `goat bound` prints them."""
+    with tempfile.TemporaryDirectory() as folder:
+        words = [program, "bound", song, os.path.join(folder, "packed.bound"), *options]
+        run = subprocess.run(words, capture_output=True, text=True)
+    if run.returncode != 0:
+        sys.exit("%s: %s" % (" ".join(words), run.stdout.strip()))
+    _, init, _, play = run.stdout.split()
+    return int(init), int(play)
+
+
 def measured(image, subtune, wanted, speed):
     """The cycles of init, the list of those of the plays, and what is wrong, or none."""
     machine = Machine()
@@ -93,7 +107,7 @@ def main():
     for song in songs:
         image, subtunes = packed(program, song, words.options)
         print("%s: image of %d bytes" % (os.path.basename(song), len(image)))
-        greatest, means = [], []
+        inits, greatest, means = [], [], []
         for subtune in range(subtunes):
             wanted = traced(program, song, subtune, words.calls, words.options)
             first, plays, wrong = measured(image, subtune, wanted, int(words.options[1]))
@@ -101,6 +115,7 @@ def main():
             mean = sum(plays) / max(1, len(plays))
             print("  subtune %d: init %d cycles; play %d at most (call %d; %.1f raster lines, %.1f %% of a picture), %d in the mean"
                   % (subtune + 1, first, most, plays.index(most) + 1 if plays else 0, most / LINE, 100 * most / PICTURE, mean))
+            inits.append(first)
             greatest.append(most)
             means.append(mean)
             if wrong:
@@ -108,6 +123,13 @@ def main():
                 print("  " + wrong)
         if subtunes > 1:
             print("  all subtunes: play %d at most, %d in the mean" % (max(greatest), sum(means) / subtunes))
+        bounds = told(program, song, words.options)
+        print("  bound: " + "; ".join(
+            "%s %d, %.2f times the greatest measured" % (name, bound, bound / max(1, most))
+            for name, bound, most in zip(("init", "play"), bounds, (max(inits), max(greatest)))))
+        if max(inits) > bounds[0] or max(greatest) > bounds[1]:
+            right = False
+            print("  a call takes more than its bound")
     sys.exit(0 if right else 1)
 
 

@@ -32,30 +32,35 @@ def processor_time(program, words, folder, status):
     return after.ru_utime + after.ru_stime - before.ru_utime - before.ru_stime, run.stdout.strip()
 
 
-def mean_times(program, folder):
-    """Milliseconds of a start, a copy and a packing, made in turns, and what the packing printed."""
-    sums, said = [0.0, 0.0, 0.0], ""
+def mean_times(program, folder, jobs):
+    """Milliseconds of a start and of each of these jobs, made in turns, and what the last one printed."""
+    runs, said = [(START, 1), *((words, 0) for words in jobs)], ""
+    sums = [0.0] * len(runs)
     for _ in range(TIMES):
-        for place, (words, status) in enumerate([(START, 1), (COPY, 0), (PACK, 0)]):
+        for place, (words, status) in enumerate(runs):
             seconds, said = processor_time(program, words, folder, status)
             sums[place] += seconds
     return [1000 * it / TIMES for it in sums], said
 
 
-def main():
-    program = os.path.abspath(sys.argv[1]) if len(sys.argv) > 1 else built_program()
+def timed_songs(program, names, jobs):
+    """The name and the bytes of the song that is made here and then of these, with the times of the jobs on each."""
     with tempfile.TemporaryDirectory() as folder:
         song = os.path.join(folder, "in")
-        for name in [None, *sys.argv[2:]]:
+        for name in [None, *names]:
             if name:
                 shutil.copyfile(name, song)
             else:
                 with open(song, "wb") as file:
                     file.write(noted_song(31, 8))
-            (start, copy, pack), said = mean_times(program, folder)
-            print("%-12s %6d bytes: start %.2f, copy %.2f, pack %.2f ms; %.2f copies, %.2f without the start; %s"
-                  % (os.path.basename(name or "made here"), os.path.getsize(song), start, copy, pack, pack / copy,
-                     (pack - start) / max(copy - start, 1e-6), said))
+            yield os.path.basename(name or "made here"), os.path.getsize(song), *mean_times(program, folder, jobs)
+
+
+def main():
+    program = os.path.abspath(sys.argv[1]) if len(sys.argv) > 1 else built_program()
+    for name, size, (start, copy, pack), said in timed_songs(program, sys.argv[2:], [COPY, PACK]):
+        print("%-12s %6d bytes: start %.2f, copy %.2f, pack %.2f ms; %.2f copies, %.2f without the start; %s"
+              % (name, size, start, copy, pack, pack / copy, (pack - start) / max(copy - start, 1e-6), said))
 
 
 if __name__ == "__main__":
