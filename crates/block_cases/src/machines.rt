@@ -4,7 +4,7 @@ use crate::bench::{Bench, IDLE, same_registers};
 use crate::difference::{Difference, same, same_byte};
 use crate::words::Reader;
 use case_text::look_up;
-use cpu6502::{CallStop, Cpu, SidWrite, Stop, WriteLog};
+use cpu6502::{CallCost, CallStop, Cpu, SidWrite, Stop, WriteLog};
 use std::alloc::Global;
 
 /// A case of a machine: its lines are done one after the other.
@@ -121,9 +121,12 @@ fn takes(bench: &Bench, reader: &mut Reader<'_>) -> Result<(), Difference> {
 }
 
 /// Sees that a call ended as it is wanted.
-fn same_end(found: Result<u32, CallStop>, wanted: Result<u32, CallStop>) -> Result<(), Difference> {
+fn same_end(
+    found: Result<CallCost, CallStop>,
+    wanted: Result<u32, CallStop>,
+) -> Result<(), Difference> {
     match (found, wanted) {
-        (Ok(steps), Ok(wanted)) => same("instructions", steps, wanted),
+        (Ok(cost), Ok(wanted)) => same("instructions", cost.steps, wanted),
         (Err(found), Err(wanted)) if found == wanted => Ok(()),
         (Ok(_), Err(_)) => Err(Difference::Done),
         (Err(CallStop::Stopped(stop)), _) => Err(Difference::Stopped(stop)),

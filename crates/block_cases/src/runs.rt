@@ -187,7 +187,7 @@ impl Run {
 fn called(bench: &mut Bench, place: u16, a: u8) -> Result<u32, Difference> {
     let mut log = WriteLog::new();
     match bench.machine.call(place, a, BUDGET, &mut log) {
-        Ok(steps) => Ok(steps),
+        Ok(cost) => Ok(cost.steps),
         Err(CallStop::Stopped(stop)) => Err(Difference::Stopped(stop)),
         Err(CallStop::Budget) => Err(Difference::Endless),
     }

@@ -124,8 +124,8 @@ rows_are_few opcode = by_row (row_of opcode) refl
     by_row None e = tt
     by_row (Some row) e = (let few = (rows_are_quick opcode row e).few in omega (arith, few))
 
-pub cycles_are_in_range : CyclesAreInRange
-cycles_are_in_range at cpu below some = by_row (row_of (at cpu.pc)) refl some
+in_range : (at : ℕ → ℕ) (cpu : Cpu) → cycles at cpu ≢ 0 → (2 ≤ cycles at cpu) × (cycles at cpu ≤ 7)
+in_range at cpu some = by_row (row_of (at cpu.pc)) refl some
   where
     by_stop : (row : Row) (s : Option Stop) → IsQuick row → unless_stopped s (row_cycles row at cpu) ≢ 0 →
         (2 ≤ unless_stopped s (row_cycles row at cpu)) × (unless_stopped s (row_cycles row at cpu) ≤ 7)
@@ -145,6 +145,16 @@ cycles_are_in_range at cpu below some = by_row (row_of (at cpu.pc)) refl some
     by_row None is takes = absurd (takes refl)
     by_row (Some row) is takes =
         by_stop row (stop_of row.mnemonic cpu.pc cpu) (rows_are_quick (at cpu.pc) row is) takes
+
+pub cycles_are_in_range : CyclesAreInRange
+cycles_are_in_range at cpu below some = in_range at cpu some
+
+-- those of a step, and 0 where it stops
+pub cycles_are_few : (at : ℕ → ℕ) (cpu : Cpu) → cycles at cpu ≤ 7
+cycles_are_few at cpu = elim (cases_lt 0 (cycles at cpu)) [
+  | inl some ↦ (in_range at cpu (λ zero. omega (arith, some, zero))).1
+  | inr none ↦ omega (arith, none)
+]
 
 -- ---- where an effect is
 

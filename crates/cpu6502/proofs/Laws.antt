@@ -12,4 +12,4 @@ pub use Rattle.cpu6502.proofs.Machines.{step_keeps, call_keeps}
 -- a call ends in one way
 pub use Rattle.cpu6502.proofs.Calls.{called_once, not_under_way, no_stop, returned_fails, stopped_fails, under_way_fails}
 -- runs of the machine: their sums, and their stops
-pub use Rattle.cpu6502.proofs.Steps.{run_one, run-suc, run_stopped, writes_in-add, writes_in-stopped}
+pub use Rattle.cpu6502.proofs.Steps.{run_one, run-suc, run_stopped, writes_in-add, writes_in-stopped, steps_take_few_cycles}

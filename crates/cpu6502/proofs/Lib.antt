@@ -12,3 +12,5 @@ pub mod Inverse
 pub mod Accumulator
 pub mod Columns
 pub mod Sums
+-- Machines that are the same.
+mod Same

@@ -1,12 +1,14 @@
 -- Runs of the machine: how they join, and what a stop does to them.
-use Rattle.std.proofs.Common.{◌≡◌, ℕ, zero, suc, ◌+◌, ◌-◌, ◌<◌, [], ◌++◌, Result, Ok, Err, refl}
+use Rattle.std.proofs.Common.{◌≡◌, ℕ, zero, suc, ◌+◌, ◌-◌, ◌*◌, ◌<◌, ◌≤◌, slice_index, [], ◌++◌, Result, Ok, Err, refl}
 use Rattle.std.proofs.Common.{sym, ap, ◌∙◌, arith, append_assoc}
 use Rattle.std.proofs.lemmas.List.{append-nil}
 use Rattle.cpu6502.specs.declared.effect.Effect.{Effect}
 use Rattle.cpu6502.specs.declared.machine.Machine.{Machine}
 use Rattle.cpu6502.specs.declared.stop.Stop.{Stop}
-use Rattle.cpu6502.specs.Step.{stepped, next_effect, step}
+use Rattle.cpu6502.specs.Step.{stepped, next_effect, next_cycles, step}
 use Rattle.cpu6502.specs.Call.{after_step, run, writes_by, writes_after, writes_in}
+use Rattle.cpu6502.specs.Call.{cycles_after, cycles_in, entered, StepsTakeFewCycles}
+use Rattle.cpu6502.proofs.Columns.{cycles_are_few}
 
 -- what follows from a step that was made follows after it
 after_ok : (r : Result Machine Stop) (go then : Machine → Result Machine Stop) (between : Machine)
@@ -75,3 +77,49 @@ writes_in-stopped n k m between stop e s lt =
     let none = stopped_writes between (next_effect between) stop (k - n - 1) s in
     rw z (writes_in-add n (suc (k - n - 1)) m between e ∙ ap (λ ws. writes_in n m ++ ws) none
     ∙ append-nil (writes_in n m))
+
+-- ---- clock cycles
+
+cycles_after-add : (n k : ℕ) (r : Result Machine Stop) (between : Machine) → after_step r (run n) ≡ Ok between →
+    ((m : Machine) → run n m ≡ Ok between → cycles_in (n + k) m ≡ cycles_in n m + cycles_in k between) →
+    cycles_after r (cycles_in (n + k)) ≡ cycles_after r (cycles_in n) + cycles_in k between
+cycles_after-add n k (Ok m) between e f = f m e
+cycles_after-add n k (Err s) between e f = cc
+
+-- those of a sum of steps are those of one run and of the other
+cycles_in-add : (n k : ℕ) (m between : Machine) → run n m ≡ Ok between →
+    cycles_in (n + k) m ≡ cycles_in n m + cycles_in k between
+cycles_in-add zero k m between e =
+    let z : 0 + k ≡ k = omega arith in
+    let same : m ≡ between = cc in
+    rw (z, same) (omega arith)
+cycles_in-add (suc n) k m between e =
+    let z : suc n + k ≡ suc (n + k) = omega arith in
+    let rest = cycles_after-add n k (step m) between e (λ m' e'. cycles_in-add n k m' between e') in
+    rw z (omega (arith, rest))
+
+cycles_of_one : (m : Machine) (r : Result Machine Stop) → next_cycles m + cycles_after r (cycles_in 0) ≡ next_cycles m
+cycles_of_one m (Ok after) = omega arith
+cycles_of_one m (Err stop) = omega arith
+
+few_after : (n : ℕ) (r : Result Machine Stop) → ((m : Machine) → cycles_in n m ≤ 7 * n) →
+    cycles_after r (cycles_in n) ≤ 7 * n
+few_after n (Ok m) few = few m
+few_after n (Err s) few = omega arith
+
+-- those of so many steps are at most 7 for each
+cycles_in_few : (n : ℕ) (m : Machine) → cycles_in n m ≤ 7 * n
+cycles_in_few zero m = omega arith
+cycles_in_few (suc n) m =
+    let one = cycles_are_few (slice_index m.memory) m.cpu in
+    let others = few_after n (step m) (cycles_in_few n) in
+    omega (arith, one, others)
+
+-- of one step more
+pub cycles_in-suc : (n : ℕ) (m between : Machine) → run n m ≡ Ok between →
+    cycles_in (n + 1) m ≡ cycles_in n m + next_cycles between
+cycles_in-suc n m between e =
+    cycles_in-add n 1 m between e ∙ ap (λ c. cycles_in n m + c) (cycles_of_one between (step between))
+
+pub steps_take_few_cycles : StepsTakeFewCycles
+steps_take_few_cycles machine address a steps = cycles_in_few steps (entered machine address a)

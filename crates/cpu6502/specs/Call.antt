@@ -1,12 +1,13 @@
 -- A call of machine code: how a machine enters it, what it is to return, and how a call that does not return ends.
 -- JSR and RTS are those of the MOS 6502 programming manual; the return address $FFFF, which RTS makes 0, is this
 -- project's own.
-use Rattle.std.specs.Prelude.{◌≡◌, ℕ, zero, suc, ◌+◌, ◌%◌, ◌<◌, List, [], ◌∷◌, ◌++◌}
+use Rattle.std.specs.Prelude.{◌≡◌, ℕ, zero, suc, ◌+◌, ◌*◌, ◌%◌, ◌<◌, ◌≤◌, List, [], ◌∷◌, ◌++◌}
 use Rattle.std.specs.Prelude.{Result, Ok, Err}
 use Rattle.cpu6502.specs.declared.effect.Write.{Write}
 use Rattle.cpu6502.specs.declared.effect.Effect.{Effect}
 use Rattle.cpu6502.specs.declared.machine.Machine.{Machine}
 use Rattle.cpu6502.specs.declared.machine.TheConstants.{RETURN_BYTE}
+use Rattle.cpu6502.specs.declared.machine.CallCost.{CallCost}
 use Rattle.cpu6502.specs.declared.stop.Stop.{Stop}
 use Rattle.cpu6502.specs.declared.stop.CallStop.{CallStop}
 use Rattle.cpu6502.specs.declared.stop.CallStop.TheVariants.{Stopped, Budget}
@@ -100,3 +101,11 @@ cycles_in (suc n) machine = next_cycles machine + cycles_after (step machine) (c
 -- return; those of the caller, which pushes and jumps, are none of them
 abbrev pub call_cycles : Machine → ℕ → ℕ → ℕ → ℕ
 call_cycles machine address a steps = cycles_in steps (entered machine address a)
+
+-- they are at most 7 for each step
+abbrev pub StepsTakeFewCycles : Type 0
+StepsTakeFewCycles = (machine : Machine) (address a steps : ℕ) → call_cycles machine address a steps ≤ 7 * steps
+
+-- these steps and their clock cycles
+abbrev pub cost_of : Machine → ℕ → ℕ → ℕ → CallCost
+cost_of machine address a steps = record { steps = steps; cycles = call_cycles machine address a steps }

@@ -4,6 +4,7 @@ ghost use Rattle.cpu6502.specs.Opcodes.{OpcodesHaveRows, RowsHaveOpcodes};
 ghost use Rattle.cpu6502.specs.Rows.{TableHas151Rows, RowsDiffer, CyclesAreCounted, ReadsHaveRows, StoresHaveRows};
 ghost use Rattle.cpu6502.specs.Rows.{ChangesHaveRows, OthersHaveRows, UndocumentedBytesHaveNone, MissingModesHaveNone};
 ghost use Rattle.cpu6502.specs.Manual.{CyclesAreInRange, EffectsTakeCycles, RowsHaveTheseCycles};
+ghost use Rattle.cpu6502.specs.Call.{StepsTakeFewCycles};
 ghost use Rattle.cpu6502.specs.Stops.{StopsHaveCauses};
 ghost use Rattle.cpu6502.specs.Machines.{CallsKeepMachines, StepsKeepMachines};
 ghost use Rattle.cpu6502.specs.Sums.{DifferencesAreOfNumbers, SumsAreOfNumbers};
@@ -36,11 +37,12 @@ pub fn worked_rows()
 {}
 
 /// Each row of the table has the cycles that the manual's tables have for what it does and its mode; and an instruction
-/// takes cycles exactly where it has an effect, and then 2 to 7.
+/// takes cycles exactly where it has an effect, and then 2 to 7; so a call takes at most 7 for each of its steps.
 pub fn cycles_are_the_manuals()
     ensures rows { RowsHaveTheseCycles }
     ensures effects { EffectsTakeCycles }
     ensures range { CyclesAreInRange }
+    ensures calls { StepsTakeFewCycles }
 {}
 
 /// A step stops as Illegal exactly where the byte at the program counter has no row, as Break exactly at BRK, and as

@@ -40,7 +40,7 @@ pub use cpu::Cpu;
 pub use cycles::{is_paged, is_read};
 pub use effect::{Effect, Write, Writes};
 pub use log::{LOG_CAPACITY, SID_BASE, SID_LAST, SidWrite, SidWrites, WriteLog};
-pub use machine::{Machine, RETURN_BYTE};
+pub use machine::{CallCost, Machine, RETURN_BYTE};
 pub use manual::cycles_of;
 pub use memory::{MEMORY_SIZE, Memory};
 pub use mnemonic::{Mnemonic, Mode};

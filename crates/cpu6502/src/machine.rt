@@ -3,7 +3,7 @@
 ghost use Rattle.std.specs.Prelude.{◌≡◌, ℕ, ◌≤◌, Ok, Err, OnOk, OnErr, IfOk, IfErr, ◌++◌, [], List};
 ghost use Rattle.std.specs.Prelude.{◌↔◌, IsTrue};
 ghost use Rattle.cpu6502.specs.Step.{step, changed, next_cycles};
-ghost use Rattle.cpu6502.specs.Call.{entered, HasReturned, Called, FailsBy, writes_in};
+ghost use Rattle.cpu6502.specs.Call.{entered, HasReturned, Called, FailsBy, writes_in, call_cycles, cost_of};
 ghost use Rattle.cpu6502.specs.declared.log.SidWrite.{SidWrite};
 ghost use Rattle.cpu6502.specs.Log.{log_of, sid_writes};
 
@@ -23,6 +23,15 @@ pub struct Machine {
     pub cpu: Cpu,
     /// The 65,536 bytes.
     pub memory: Memory,
+}
+
+/// What a call took that returned.
+#[derive(Clone, Copy, Debug, PartialEq, Eq)]
+pub struct CallCost {
+    /// Its steps.
+    pub steps: u32,
+    /// Their clock cycles, at most 7 for each.
+    pub cycles: u64,
 }
 
 /// The byte that a caller pushes twice, so that a return leads to address 0.
@@ -54,7 +63,8 @@ impl Machine {
 
     /// Calls the code at an address with a number in the accumulator: pushes `$FF` twice and steps until the program
     /// counter is 0 and the stack pointer is what it was before the pushes. Answers the number of steps, at most
-    /// `budget`. The log is emptied first, and then holds what the call writes to the SID, up to its end or its stop.
+    /// `budget`, and their clock cycles. The log is emptied first, and then holds what the call writes to the SID, up to its
+    /// end or its stop.
     ///
     /// # Errors
     ///
@@ -66,20 +76,21 @@ impl Machine {
         a: u8,
         budget: u32,
         log: &mut WriteLog,
-    ) -> Result<u32, CallStop>
-        ensures returned { IfOk result (λ steps. Called self.old address a steps self.new) }
-        ensures in_budget { IfOk result (λ steps. steps ≤ budget) }
+    ) -> Result<CallCost, CallStop>
+        ensures returned { IfOk result (λ cost. Called self.old address a cost.steps self.new) }
+        ensures cycles { IfOk result (λ cost. cost.cycles ≡ call_cycles self.old address a cost.steps) }
+        ensures in_budget { IfOk result (λ cost. cost.steps ≤ budget) }
         ensures failed { IfErr result
             (λ reason. FailsBy self.old address a budget reason self.new) }
 
         ensures returns { (steps : ℕ) (after : Machine) → Called self.old address a steps after →
-            steps ≤ budget → result ≡ Ok steps }
+            steps ≤ budget → result ≡ Ok (cost_of self.old address a steps) }
         ensures fails { (reason : CallStop) (after : Machine) →
             FailsBy self.old address a budget reason after → result ≡ Err reason }
 
         ensures log { IfOk result
-            (λ steps. log.new ≡
-            log_of (sid_writes (writes_in steps (entered self.old address a)))) }
+            (λ cost. log.new ≡
+            log_of (sid_writes (writes_in cost.steps (entered self.old address a)))) }
         ensures log_failed { OnErr result
             (log.new ≡ log_of (sid_writes (writes_in budget (entered self.old address a)))) }
     {
@@ -87,16 +98,33 @@ impl Machine {
         let home = self.cpu.sp;
         self.enter(address, a);
         let mut steps: u32 = 0;
+        let mut cycles: u64 = 0;
         'stepping: while !self.is_back(home) {
             if steps == budget {
                 return Err(CallStop::Budget);
             }
+            cycles += u64::from(self.cycles());
             if let Err(stop) = self.step_noted(log) {
                 return Err(CallStop::Stopped(stop));
             }
             steps += 1;
         }
-        Ok(steps)
+        Ok(CallCost { steps, cycles })
+    }
+
+    /// Whether two machines are in the same state: in their registers, flags and bytes.
+    pub fn is_same(&self, other: &Machine) -> bool
+        ensures { IsTrue result ↔ (self.now ≡ other.now) }
+    {
+        self.cpu == other.cpu && self.memory.is_same(&other.memory)
+    }
+
+    /// Takes over the state of another machine.
+    pub fn copy_from(&mut self, other: &Machine)
+        ensures { self.new ≡ other.now }
+    {
+        self.cpu = other.cpu;
+        self.memory.copy_from(&other.memory);
     }
 
     /// Pushes `$FF` twice, and goes to an address with a number in the accumulator.

@@ -1,6 +1,6 @@
 //! The 65,536 bytes.
 
-ghost use Rattle.std.specs.Prelude.{◌≡◌, IfOk, All, length, slice_index, slice_set};
+ghost use Rattle.std.specs.Prelude.{◌≡◌, ◌↔◌, IfOk, IsTrue, All, length, slice_index, slice_set};
 
 use base::NoMemory;
 use std::alloc::{AllocError, Global};
@@ -45,6 +45,20 @@ impl Memory {
         ensures { result ≡ slice_index self.now at }
     {
         self.bytes[usize::from(at)]
+    }
+
+    /// Whether two memories have the same bytes.
+    pub fn is_same(&self, other: &Memory) -> bool
+        ensures { IsTrue result ↔ (self.now ≡ other.now) }
+    {
+        self.bytes.as_slice() == other.bytes.as_slice()
+    }
+
+    /// Takes over the bytes of another memory.
+    pub fn copy_from(&mut self, other: &Memory)
+        ensures { self.new ≡ other.now }
+    {
+        self.bytes.copy_from_slice(&other.bytes);
     }
 
     /// Puts a byte at a place.

@@ -3,7 +3,7 @@ use Rattle.std.specs.Prelude.{◌≡◌, ℕ, ◌≤◌, List, Some, None, Resul
 use Rattle.cpu6502.specs.declared.machine.Machine.{Machine}
 use Rattle.cpu6502.specs.declared.log.WriteLog.{WriteLog}
 use Rattle.cpu6502.specs.declared.stop.CallStop.{CallStop}
-use Rattle.cpu6502.specs.Call.{Called, FailsBy, entered, writes_in}
+use Rattle.cpu6502.specs.Call.{Called, FailsBy, entered, writes_in, call_cycles}
 use Rattle.cpu6502.specs.Log.{log_of, sid_writes}
 use Rattle.sid_run.specs.State.{RunnerState, sid_registers}
 
@@ -17,6 +17,7 @@ pub record AnswersCall (address a budget : ℕ) (before after : RunnerState)
   -- registers: the call returned, and the runner hasn't stopped
   pub returned : OnOk answer (Called before.machine address a after.spent after.machine)
   pub in_budget : OnOk answer (after.spent ≤ budget)
+  pub cycles : OnOk answer (after.cycles ≡ call_cycles before.machine address a after.spent)
   pub registers : IfOk answer (λ registers. registers ≡ sid_registers after.machine)
   pub was_running : OnOk answer (before.stopped ≡ None)
   pub is_running : OnOk answer (after.stopped ≡ None)
@@ -25,6 +26,7 @@ pub record AnswersCall (address a budget : ℕ) (before after : RunnerState)
       → IfErr answer (λ reason. FailsBy before.machine address a budget reason after.machine)
   pub kept : IfErr answer (λ reason. after.stopped ≡ Some reason)
   pub spent : OnErr answer (after.spent ≡ before.spent)
+  pub same_cycles : OnErr answer (after.cycles ≡ before.cycles)
   -- where a call returns, and where it doesn't, the answer says so
   pub returns : (steps : ℕ) (end : Machine) → before.stopped ≡ None
       → Called before.machine address a steps end → steps ≤ budget → answer ≡ Ok (sid_registers end)

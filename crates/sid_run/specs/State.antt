@@ -12,14 +12,15 @@ use Rattle.psid.specs.declared.header.Psid.{Psid}
 use Rattle.sid_run.specs.declared.runner.TheConstants.{MOST_STEPS}
 use Rattle.sid_run.specs.declared.memory.TheConstants.{REGISTERS}
 
--- its machine, the addresses of init and play, why it stopped if it did, the steps of the last call that returned,
--- and what the last call wrote to the SID
+-- its machine, the addresses of init and play, why it stopped if it did, the steps of the last call that returned and their
+-- clock cycles, and what the last call wrote to the SID
 pub record RunnerState : Type 0 where
   pub machine : Machine
   pub init : ℕ
   pub play : ℕ
   pub stopped : Option CallStop
   pub spent : ℕ
+  pub cycles : ℕ
   pub log : WriteLog
 
 -- the registers of a machine that nothing has run on
@@ -53,6 +54,7 @@ loaded psid = record {
   play = psid.header.play;
   stopped = None;
   spent = 0;
+  cycles = 0;
   log = log_of [];
 }
 

@@ -25,7 +25,7 @@ const CLEARED: Cpu = Cpu {
 };
 
 /// A file that is loaded into a machine of its own. Contracts see its machine, the two addresses, why it stopped, the
-/// steps of the last call that returned, and what the last call wrote to the SID.
+/// steps of the last call that returned and their clock cycles, and what the last call wrote to the SID.
 #[derive(Drop)]
 pub struct Runner {
     machine: Machine,
@@ -33,6 +33,7 @@ pub struct Runner {
     play: u16,
     stopped: Option<CallStop>,
     spent: u32,
+    cycles: u64,
     log: WriteLog,
 }
 
@@ -47,6 +48,7 @@ impl Model for Runner {
       play = runner.play;
       stopped = runner.stopped;
       spent = runner.spent;
+      cycles = runner.cycles;
       log = runner.log;
     } };
 }
@@ -76,6 +78,7 @@ impl Runner {
             play: psid.header.play,
             stopped: None,
             spent: 0,
+            cycles: 0,
             log: WriteLog::new(),
         })
     }
@@ -119,6 +122,20 @@ impl Runner {
         self.spent
     }
 
+    /// The clock cycles of the last call that returned, at most 7 for each step; 0 before the first such call.
+    pub fn cycles(&self) -> u64
+        ensures { result ≡ self.now.cycles }
+    {
+        self.cycles
+    }
+
+    /// The machine as the last call left it, or as it was loaded.
+    pub fn machine(&self) -> &Machine
+        ensures { result.now ≡ self.now.machine }
+    {
+        &self.machine
+    }
+
     /// Calls an address with a number in the accumulator, unless the runner has stopped.
     ///
     /// # Errors
@@ -131,8 +148,9 @@ impl Runner {
             return Err(reason);
         }
         match self.machine.call(address, a, budget, &mut self.log) {
-            Ok(steps) => {
-                self.spent = steps;
+            Ok(cost) => {
+                self.spent = cost.steps;
+                self.cycles = cost.cycles;
                 Ok(sid_registers(&self.machine.memory))
             }
             Err(reason) => {

@@ -3,8 +3,8 @@ use Rattle.std.proofs.lemmas.Bool.{false≢true}
 use Rattle.cpu6502.specs.declared.machine.Machine.{Machine}
 use Rattle.cpu6502.specs.declared.stop.Stop.{Stop}
 use Rattle.cpu6502.specs.Step.{step}
-use Rattle.cpu6502.specs.Call.{entered, run, HasReturned, IsOutFor, Called, MeetsStop, IsUnderWay}
-use Rattle.cpu6502.proofs.Steps.{run-suc}
+use Rattle.cpu6502.specs.Call.{entered, run, HasReturned, IsOutFor, Called, MeetsStop, IsUnderWay, cycles_in}
+use Rattle.cpu6502.proofs.Steps.{run-suc, cycles_in-suc}
 use Rattle.cpu6502.proofs.Calls.{out_longer, no_stop, returned_fails, under_way_fails, stopped_fails, log-suc, log_stopped}
 use Rattle.cpu6502.proofs.machine.Machine.call.Goals as goal
 
@@ -45,6 +45,7 @@ returns-in-Err c =
     omega (arith, below c.stepping.steps c.args.budget i.within c.if-steps-budget.false) in
     record {
       returned = search rules;
+      cycles = search rules;
       in_budget = search rules;
       failed =
           let there = subst (λ (after : Machine). MeetsStop c.args.self.now c.args.address c.args.a c.stepping.steps
@@ -67,12 +68,19 @@ stepping-preserved c =
     let i = c.stepping.invariant in
     let here = λ (back : HasReturned c.args.self.now c.stepping.self). false≢true
     (c.stepping-test.ensures.1 (back.at_zero, back.same_stack)) in
+    let small = c.cycles.type_inv in
+    let more = ap (λ n. n + c.from-cycles.result) i.cycles
+    ∙ ap (λ n. cycles_in c.stepping.steps (entered c.args.self.now c.args.address c.args.a) + n)
+    (c.from-cycles.ensures ∙ c.cycles.ensures)
+    ∙ sym (cycles_in-suc c.stepping.steps (entered c.args.self.now c.args.address c.args.a) c.stepping.self i.runs) in
     record {
       home = refl;
       within = below c.stepping.steps c.args.budget i.within c.if-steps-budget.false;
       runs = run-suc c.stepping.steps (entered c.args.self.now c.args.address c.args.a) c.stepping.self i.runs
           ∙ c.in_default.ensures.done;
       out = out_longer c.args.self.now c.args.address c.args.a c.stepping.steps c.stepping.self i.out i.runs here;
+      cycles = more;
+      few = omega (arith, c.from-cycles.ensures, small, i.few);
       logged = c.step_noted.ensures.noted _ i.logged
           ∙ log-suc c.stepping.steps (entered c.args.self.now c.args.address c.args.a) c.stepping.self i.runs;
     }
@@ -83,5 +91,7 @@ returns-clause-fails c = λ reason after fails.
     let back = c.stepping-test.ensures.0 refl in
     let called : Called c.args.self.now c.args.address c.args.a c.stepping.steps c.stepping.self =
     record { runs = i.runs; returned = record { at_zero = back.0; same_stack = back.1 }; first = i.out } in
+    let never : Ok 0 ≡ Err reason =
     returned_fails c.args.self.now c.args.address c.args.a c.stepping.steps c.args.budget c.stepping.self after reason
-    (Ok c.stepping.steps) called i.within fails
+    (Ok 0) called i.within fails in
+    absurd (cc (never))

@@ -1,5 +1,5 @@
-use Rattle.std.proofs.Common.{◌≡◌, ◌≤◌, ◌-◌, Ok}
-use Rattle.cpu6502.specs.Call.{entered, run, IsOutFor, writes_in}
+use Rattle.std.proofs.Common.{◌≡◌, ◌≤◌, ◌-◌, ◌*◌, Ok}
+use Rattle.cpu6502.specs.Call.{entered, run, IsOutFor, writes_in, cycles_in}
 use Rattle.cpu6502.specs.Log.{log_of, sid_writes}
 use Rattle.cpu6502.proofs.machine.Machine.call.Given as goal
 
@@ -9,6 +9,8 @@ invariant-stepping l = record {
   within : l.steps ≤ l.budget;
   runs : run l.steps (entered l.fn.self l.address l.a) ≡ Ok l.self;
   out : IsOutFor l.fn.self l.address l.a l.steps;
+  cycles : l.cycles ≡ cycles_in l.steps (entered l.fn.self l.address l.a);
+  few : l.cycles ≤ 255 * l.steps;
   logged : l.log ≡ log_of (sid_writes (writes_in l.steps (entered l.fn.self l.address l.a)));
 }
 

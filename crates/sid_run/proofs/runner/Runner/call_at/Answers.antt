@@ -8,12 +8,14 @@ returns-in-Err c =
     ap (λ (s : RunnerState). s.machine) c.self.view_is in record {
       returned = search rules;
       in_budget = search rules;
+      cycles = search rules;
       registers = search rules;
       was_running = search rules;
       is_running = search rules;
       failed = search rules;
       kept = search rules;
       spent = search rules;
+      same_cycles = search rules;
       returns = λ steps end running called within.
           let other = c.in-Err.ensures.returns steps end (rw machine called) within in cc;
       fails = search rules;
