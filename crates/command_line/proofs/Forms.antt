@@ -18,11 +18,12 @@ use Rattle.command_line.specs.declared.chip.Chip.TheVariants.{Mos6581, Mos8580}
 use Rattle.command_line.specs.declared.topics.Topic.{Topic}
 use Rattle.command_line.specs.declared.topics.Topic.TheVariants.{All, Check, Parts, Trace, Pack, Run, Show, Edit, Copy}
 use Rattle.command_line.specs.declared.topics.Topic.TheVariants.{Join, Disasm, Asm, Selftest, Help, Version, Bound, BoundCheck}
+use Rattle.command_line.specs.declared.topics.Topic.TheVariants.{Measure, Chart}
 use Rattle.command_line.specs.Topics.{form_word}
 use Rattle.command_line.specs.Words as asked
 use Rattle.command_line.specs.Words.{Job, texts, format_word, skip_word, system_word, chip_word, IsAddressWord}
-use Rattle.command_line.specs.Words.{IsZeroPageWord, IsNumberWord, IsSpeedWord, AreOptionWords, unsaid, said}
-use Rattle.command_line.specs.Words.{ArePackOptionWords, untold, told, ArePackArguments}
+use Rattle.command_line.specs.Words.{IsZeroPageWord, IsNumberWord, IsCountWord, IsSpeedWord}
+use Rattle.command_line.specs.Words.{AreOptionWords, unsaid, said, ArePackOptionWords, untold, told, ArePackArguments}
 use Rattle.command_line.specs.Forms.{WordsOf, command_of, command_named}
 
 module _ {T E : Type 0} where
@@ -113,6 +114,19 @@ same_number : {limit : ℕ} {v w : List ℕ} {a b : ℕ} → limit < 2 ^ 64 → 
 same_number {a} {b} small same p q =
     decimal_injective a b (omega (arith, p.allowed, small)) (omega (arith, q.allowed, small))
     (sym p.spelled ∙ same ∙ q.spelled)
+
+same_count : {limit : ℕ} {v w : List ℕ} {a b : ℕ} → limit < 2 ^ 64 → v ≡ w → IsCountWord limit v a →
+    IsCountWord limit w b → a ≡ b
+same_count small same p q =
+    same_number small same (record { spelled = p.spelled; allowed = p.allowed })
+    (record { spelled = q.spelled; allowed = q.allowed })
+
+-- a word that spells 0 spells no count
+pub no_count : {limit : ℕ} {word : List ℕ} → limit < 2 ^ 64 → IsNumberWord limit word 0 → (number : ℕ) →
+    IsCountWord limit word number → ⊥
+no_count small spells number is =
+    let none = same_number small refl (record { spelled = is.spelled; allowed = is.allowed }) spells in
+    omega (arith, none, is.some)
 
 same_address : {v w : List ℕ} {a b : ℕ} → v ≡ w → IsAddressWord v a → IsAddressWord w b → a ≡ b
 same_address same p q =
@@ -227,6 +241,8 @@ topic_in (word ∷ words) =
     else if bytes_eq word (codes "trace") then Trace
     else if bytes_eq word (codes "pack") then Pack
     else if bytes_eq word (codes "run") then Run
+    else if bytes_eq word (codes "measure") then Measure
+    else if bytes_eq word (codes "chart") then Chart
     else if bytes_eq word (codes "show") then Show
     else if bytes_eq word (codes "edit") then Edit
     else if bytes_eq word (codes "copy") then Copy
@@ -247,6 +263,8 @@ told_back BoundCheck = refl
 told_back Trace = refl
 told_back Pack = refl
 told_back Run = refl
+told_back Measure = refl
+told_back Chart = refl
 told_back Show = refl
 told_back Edit = refl
 told_back Copy = refl
@@ -356,3 +374,19 @@ one_job ws (asked.BoundCheck i f x) (asked.BoundCheck i2 f2 x2) p q =
     same_options (cc (p.words_are, q.words_are, v.form, w.form)) v.options_spelled w.options_spelled in
     cc (p.words_are, q.words_are, v.form, w.form, options)
 one_job ws (asked.BoundCheck i f x) other p q = absurd (differ ws (asked.BoundCheck i f x) other p q refl refl)
+one_job ws (asked.Measure i n) (asked.Measure i2 n2) p q =
+    let v = p.are_arguments in
+    let w = q.are_arguments in
+    let calls : n ≡ n2 =
+    same_count (omega arith) (cc (p.words_are, q.words_are, v.form, w.form)) v.calls_spelled w.calls_spelled in
+    cc (p.words_are, q.words_are, v.form, w.form, calls)
+one_job ws (asked.Measure i n) other p q = absurd (differ ws (asked.Measure i n) other p q refl refl)
+one_job ws (asked.Chart i o s n) (asked.Chart i2 o2 s2 n2) p q =
+    let v = p.are_arguments in
+    let w = q.are_arguments in
+    let subtune : s ≡ s2 =
+    same_number (omega arith) (cc (p.words_are, q.words_are, v.form, w.form)) v.subtune_spelled w.subtune_spelled in
+    let calls : n ≡ n2 =
+    same_count (omega arith) (cc (p.words_are, q.words_are, v.form, w.form)) v.calls_spelled w.calls_spelled in
+    cc (p.words_are, q.words_are, v.form, w.form, subtune, calls)
+one_job ws (asked.Chart i o s n) other p q = absurd (differ ws (asked.Chart i o s n) other p q refl refl)

@@ -48,7 +48,10 @@ sum_fits sum =
     length-encode_with lower_digits
     ((sum / 16777216 % 256) ∷ (sum / 65536 % 256) ∷ (sum / 256 % 256) ∷ (sum % 256) ∷ [])
 
--- a number of at most ten digits
+-- a number of at most seven digits, and one of at most ten
+pub seven_digits : (n : ℕ) → n < 10 ^ 7 → length (decimal n) ≤ 7
+seven_digits n small = length-decimal-le 7 n (lit< tt) small (omega (arith, small))
+
 pub ten_digits : (n : ℕ) → n < 10 ^ 10 → length (decimal n) ≤ 10
 ten_digits n small = length-decimal-le 10 n (lit< tt) small (omega (arith, small))
 

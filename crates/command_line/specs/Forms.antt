@@ -5,7 +5,7 @@ use Rattle.std.specs.Str.{bytes_eq}
 use Rattle.command_line.specs.Topics.{form_word}
 use Rattle.command_line.specs.Words as asked
 use Rattle.command_line.specs.Words.{Job, ArePackArguments, AreTraceArguments, AreRunArguments, AreSelftestArguments}
-use Rattle.command_line.specs.Words.{ArePartsArguments, AreBoundArguments}
+use Rattle.command_line.specs.Words.{ArePartsArguments, AreBoundArguments, AreMeasureArguments, AreChartArguments}
 
 -- a command, and the words after it
 pub record Form : Type 1 where
@@ -91,6 +91,14 @@ form_of (asked.Bound input output options) = record {
 form_of (asked.BoundCheck input certificate options) = record {
   command = codes "bound-check";
   has_arguments = λ words. AreBoundArguments words input certificate options;
+}
+form_of (asked.Measure input calls) = record {
+  command = codes "measure";
+  has_arguments = λ words. AreMeasureArguments words input calls;
+}
+form_of (asked.Chart input output subtune calls) = record {
+  command = codes "chart";
+  has_arguments = λ words. AreChartArguments words input output subtune calls;
 }
 
 abbrev pub command_of : Job → List ℕ

@@ -21,3 +21,5 @@ job_of (code.Show input output) = asked.Show input.now output.now
 job_of (code.Parts input options) = asked.Parts input.now options
 job_of (code.Bound input output options) = asked.Bound input.now output.now options
 job_of (code.BoundCheck input certificate options) = asked.BoundCheck input.now certificate.now options
+job_of (code.Measure input calls) = asked.Measure input.now calls
+job_of (code.Chart input output subtune calls) = asked.Chart input.now output.now subtune calls

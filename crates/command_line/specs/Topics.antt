@@ -3,6 +3,7 @@ use Rattle.std.specs.Prelude.{ℕ, List, map, codes, Option, Some, None}
 use Rattle.command_line.specs.declared.topics.Topic.{Topic}
 use Rattle.command_line.specs.declared.topics.Topic.TheVariants.{All, Check, Parts, Trace, Pack, Run, Show, Edit, Copy}
 use Rattle.command_line.specs.declared.topics.Topic.TheVariants.{Join, Disasm, Asm, Selftest, Help, Version, Bound, BoundCheck}
+use Rattle.command_line.specs.declared.topics.Topic.TheVariants.{Measure, Chart}
 use Rattle.command_line.specs.declared.help.songs.TheConstants as songs
 use Rattle.command_line.specs.declared.help.files.TheConstants as files
 use Rattle.command_line.specs.declared.help.others.TheConstants as others
@@ -17,6 +18,8 @@ form_word BoundCheck = Some (codes "bound-check")
 form_word Trace = Some (codes "trace")
 form_word Pack = Some (codes "pack")
 form_word Run = Some (codes "run")
+form_word Measure = Some (codes "measure")
+form_word Chart = Some (codes "chart")
 form_word Show = Some (codes "show")
 form_word Edit = Some (codes "edit")
 form_word Copy = Some (codes "copy")
@@ -37,6 +40,8 @@ help_lines BoundCheck = map (λ line. line.now) songs.BOUND_CHECK.now
 help_lines Trace = map (λ line. line.now) songs.TRACE.now
 help_lines Pack = map (λ line. line.now) songs.PACK.now
 help_lines Run = map (λ line. line.now) files.RUN.now
+help_lines Measure = map (λ line. line.now) files.MEASURE.now
+help_lines Chart = map (λ line. line.now) files.CHART.now
 help_lines Show = map (λ line. line.now) songs.SHOW.now
 help_lines Edit = map (λ line. line.now) songs.EDIT.now
 help_lines Copy = map (λ line. line.now) songs.COPY.now

@@ -36,9 +36,23 @@ pub record IsNumberWord (limit : ℕ) (word : List ℕ) (number : ℕ) : Type 0 
   pub spelled : word ≡ decimal number
   pub allowed : number ≤ limit
 
+-- such a number that is at least 1
+pub record IsCountWord (limit : ℕ) (word : List ℕ) (number : ℕ) : Type 0 where
+  pub spelled : word ≡ decimal number
+  pub some : 1 ≤ number
+  pub allowed : number ≤ limit
+
 -- the most frames that may be asked for
 abbrev pub frame_limit : ℕ
 frame_limit = 100000
+
+-- the most plays of a subtune that may be measured
+abbrev pub measure_limit : ℕ
+measure_limit = 1000000
+
+-- the most plays that may be drawn
+abbrev pub chart_limit : ℕ
+chart_limit = 100000
 
 -- the greatest number that a song may be made from: of 64 bits
 abbrev pub song_number_limit : ℕ
@@ -55,7 +69,8 @@ subtune_limit = 255
 -- a listing of a PSID file's image into another file, or the bytes of a listing. Or to write the songs in two files into
 -- another, as one song. Or to tell of the forms, or the version. Or to write a song as a script into another file, or
 -- to tell what it costs when it is packed. Or to write numbers that bound the cycles of a packed song's calls, or to
--- check such numbers
+-- check such numbers. Or to tell of each subtune of a PSID file how long it is and what its dearest call costs, within
+-- a number of plays, or to write a picture of what each of so many plays of one subtune costs into another file
 pub data Job : Type 0 where
   Pack : (input output : List ℕ) (psid : Bool) (address zero_page : ℕ) (options : Options)
       (chip : Chip) → Job
@@ -74,6 +89,8 @@ pub data Job : Type 0 where
   Parts : (input : List ℕ) (options : Options) → Job
   Bound : (input output : List ℕ) (options : Options) → Job
   BoundCheck : (input certificate : List ℕ) (options : Options) → Job
+  Measure : (input : List ℕ) (calls : ℕ) → Job
+  Chart : (input output : List ℕ) (subtune calls : ℕ) → Job
 
 -- the word for what is left out of a frame: the effect step, the pulse step where a row is fetched, and the pulse step
 -- between two patterns. The other three choices have none
@@ -184,10 +201,29 @@ pub record AreBoundArguments (arguments : List (List ℕ)) (input other : List �
   pub other_named : other ≢ []
   pub options_spelled : AreOptionWords (skip_word ∷ speed_word ∷ []) options
 
--- the numbers of a job are allowed: an image can stand at the address and have the two bytes of page 0, and there are
--- at most 100,000 frames
+-- the arguments are `IN CALLS`, with 1 to 1,000,000 calls
+pub record AreMeasureArguments (arguments : List (List ℕ)) (input : List ℕ) (calls : ℕ) : Type 0 where
+  pub calls_word : List ℕ
+  pub form : arguments ≡ input ∷ calls_word ∷ []
+  pub in_named : input ≢ []
+  pub calls_spelled : IsCountWord measure_limit calls_word calls
+
+-- the arguments are `IN OUT SUBTUNE CALLS`, with a subtune of at most 255 and 1 to 100,000 calls
+pub record AreChartArguments (arguments : List (List ℕ)) (input output : List ℕ) (subtune calls : ℕ) : Type 0 where
+  pub subtune_word : List ℕ
+  pub calls_word : List ℕ
+  pub form : arguments ≡ input ∷ output ∷ subtune_word ∷ calls_word ∷ []
+  pub in_named : input ≢ []
+  pub out_named : output ≢ []
+  pub subtune_spelled : IsNumberWord subtune_limit subtune_word subtune
+  pub calls_spelled : IsCountWord chart_limit calls_word calls
+
+-- the numbers of a job are allowed: an image can stand at the address and have the two bytes of page 0, there are at
+-- most 100,000 frames, 1 to 1,000,000 plays that are measured, and 1 to 100,000 that are drawn
 abbrev pub HasAllowedNumbers : Job → Type 0
 HasAllowedNumbers (Pack input output psid address zero_page options chip) = IsAddress address × IsZeroPage zero_page
 HasAllowedNumbers (Trace input subtune frames options) = frames ≤ frame_limit
 HasAllowedNumbers (Run input subtune frames) = frames ≤ frame_limit
+HasAllowedNumbers (Measure input calls) = (1 ≤ calls) × (calls ≤ measure_limit)
+HasAllowedNumbers (Chart input output subtune calls) = (1 ≤ calls) × (calls ≤ chart_limit)
 HasAllowedNumbers _ = Unit {0}

@@ -7,7 +7,8 @@ ghost use Rattle.play_model.specs.declared.options.System.{System as Timing};
 ghost use Rattle.command_line.specs.declared.chip.Chip.{Chip as Sid};
 ghost use Rattle.command_line.specs.Forms.{AreTwoNames, AreThreeNames};
 ghost use Rattle.command_line.specs.Words.{texts, format_word, IsAddressWord, IsZeroPageWord, IsNumberWord};
-ghost use Rattle.command_line.specs.Words.{IsSpeedWord, system_word, chip_word, AreOptionWords, ArePackOptionWords};
+ghost use Rattle.command_line.specs.Words.{IsCountWord, IsSpeedWord, system_word, chip_word};
+ghost use Rattle.command_line.specs.Words.{AreOptionWords, ArePackOptionWords};
 
 use crate::chip::Chip;
 use crate::words::WordsFault;
@@ -18,6 +19,12 @@ pub const SUBTUNE_LIMIT: u64 = 255;
 
 /// The most frames that may be asked for.
 pub const FRAME_LIMIT: u64 = 100_000;
+
+/// The most plays of a subtune that may be measured.
+pub const MEASURE_LIMIT: u64 = 1_000_000;
+
+/// The most plays that may be drawn.
+pub const CHART_LIMIT: u64 = 100_000;
 
 /// The names of a file that is read and of a file that is written.
 ///
@@ -91,6 +98,22 @@ pub fn decimal_of(word: &str, limit: u64) -> Result<u64, WordsFault>
     } else {
         Err(WordsFault)
     }
+}
+
+/// The number from 1 to `limit` that a word spells in decimal.
+///
+/// # Errors
+///
+/// The word has another byte than a digit, or a leading zero, or the number is 0 or above the limit.
+pub fn count_of(word: &str, limit: u64) -> Result<u64, WordsFault>
+    ensures { MatchResult result (IsCountWord limit word.now) (λ _. (number : ℕ) →
+        ¬ IsCountWord limit word.now number) }
+{
+    let number = decimal_of(word, limit)?;
+    if number == 0 {
+        return Err(WordsFault);
+    }
+    Ok(number)
 }
 
 /// The address that four hexadecimal digits spell: a multiple of 256 from `$0800` to `$CF00`.

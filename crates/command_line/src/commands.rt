@@ -4,6 +4,8 @@
 pub mod asm;
 /// `bound IN OUT SKIP SPEED`, and `bound-check IN CERT SKIP SPEED`.
 pub mod bound;
+/// `chart IN OUT SUBTUNE CALLS`.
+pub mod chart;
 /// `check IN`.
 pub mod check;
 /// `copy IN OUT`.
@@ -16,6 +18,8 @@ pub mod edit;
 pub mod help;
 /// `join IN SECOND OUT`.
 pub mod join;
+/// `measure IN CALLS`.
+pub mod measure;
 /// `pack IN OUT psid|raw ADDRESS ZP`, or with `SKIP SPEED` or `SKIP SPEED SYSTEM CHIP` behind it.
 pub mod pack;
 /// `parts IN SKIP SPEED`.

@@ -23,7 +23,7 @@ mod status;
 mod topics;
 mod words;
 
-pub use arguments::{FRAME_LIMIT, SUBTUNE_LIMIT};
+pub use arguments::{CHART_LIMIT, FRAME_LIMIT, MEASURE_LIMIT, SUBTUNE_LIMIT};
 pub use chip::Chip;
 pub use line::Line;
 pub use message::{Message, Piece};

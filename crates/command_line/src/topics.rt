@@ -26,6 +26,10 @@ pub enum Topic {
     Pack,
     /// `run`.
     Run,
+    /// `measure`.
+    Measure,
+    /// `chart`.
+    Chart,
     /// `show`.
     Show,
     /// `edit`.
@@ -63,6 +67,8 @@ pub fn form_named(word: &str) -> Result<Topic, WordsFault>
         "trace" => Ok(Topic::Trace),
         "pack" => Ok(Topic::Pack),
         "run" => Ok(Topic::Run),
+        "measure" => Ok(Topic::Measure),
+        "chart" => Ok(Topic::Chart),
         "show" => Ok(Topic::Show),
         "edit" => Ok(Topic::Edit),
         "copy" => Ok(Topic::Copy),
@@ -90,6 +96,8 @@ impl Topic {
             Topic::Trace => songs::TRACE,
             Topic::Pack => songs::PACK,
             Topic::Run => files::RUN,
+            Topic::Measure => files::MEASURE,
+            Topic::Chart => files::CHART,
             Topic::Show => songs::SHOW,
             Topic::Edit => songs::EDIT,
             Topic::Copy => songs::COPY,

@@ -11,8 +11,10 @@ use crate::topics::Topic;
 use play_model::Options;
 
 /// The line of words that are of no form: the command, and a word for each form.
-pub const USAGE: &str =
-    "usage: goat check|trace|pack|run|edit|copy|selftest|disasm|asm|join|help|version|show|parts|bound|bound-check";
+pub const USAGE: &str = concat!(
+    "usage: goat check|trace|pack|run|edit|copy|selftest|disasm|asm|join|help|version|show|parts|bound|bound-check",
+    "|measure|chart"
+);
 
 /// What the program is asked to do.
 #[derive(Clone, Copy, Debug)]
@@ -114,6 +116,22 @@ pub enum Job<'a> {
         /// What is left out of a frame, and the speed.
         options: Options,
     },
+    /// `measure IN CALLS`: tell of each subtune of the PSID file IN how long it is and what its dearest call costs.
+    Measure {
+        input: &'a str,
+        /// How many plays are looked at, at most: 1 to 1,000,000.
+        calls: u32,
+    },
+    /// `chart IN OUT SUBTUNE CALLS`: write a picture (SVG) into the file OUT of how many clock cycles each play of a
+    /// subtune of the PSID file IN takes.
+    Chart {
+        input: &'a str,
+        output: &'a str,
+        /// The subtune, counted from 1.
+        subtune: u8,
+        /// How many plays are drawn, 1 to 100,000.
+        calls: u32,
+    },
     /// `parts IN SKIP SPEED`: tell what the song in the file IN costs when it is packed, and why.
     Parts {
         input: &'a str,
@@ -155,6 +173,8 @@ pub fn parse_words(words: &[String]) -> Result<Job<'_>, WordsFault>
         "show" => commands::show::show_job(arguments),
         "bound" => commands::bound::bound_job(arguments),
         "bound-check" => commands::bound::bound_check_job(arguments),
+        "measure" => commands::measure::measure_job(arguments),
+        "chart" => commands::chart::chart_job(arguments),
         "parts" => commands::parts::parts_job(arguments),
         _ => Err(WordsFault),
     }

@@ -16,6 +16,10 @@ pub const TRACE_FORM: &str = "goat trace IN SUBTUNE FRAMES [SKIP SPEED]\n";
 pub const PACK_FORM: &str = "goat pack IN OUT psid|raw ADDRESS ZP [SKIP SPEED [SYSTEM CHIP]]\n";
 /// The form of `run`.
 pub const RUN_FORM: &str = "goat run IN SUBTUNE FRAMES\n";
+/// The form of `measure`.
+pub const MEASURE_FORM: &str = "goat measure IN CALLS\n";
+/// The form of `chart`.
+pub const CHART_FORM: &str = "goat chart IN OUT SUBTUNE CALLS\n";
 /// The form of `show`.
 pub const SHOW_FORM: &str = "goat show IN OUT\n";
 /// The form of `edit`.
@@ -43,6 +47,9 @@ pub const BLANK: &str = "\n";
 pub const SONG: &str = "  IN        the file of a song (GTS5), at most 262,144 bytes\n";
 /// IN, where it is a PSID file.
 pub const PSID: &str = "  IN        a PSID v2 file, at most 262,144 bytes\n";
+/// SUBTUNE, where it is one of a PSID file's songs.
+pub const SONG_OF_A_PSID: &str =
+    "  SUBTUNE   which of the file's songs, counted from 1: 0 to 255\n";
 /// OUT.
 pub const OUT: &str = "  OUT       the file that is written\n";
 /// SKIP.
@@ -100,5 +107,8 @@ pub const SINK_FAULT: &str = "  10   standard output failed\n";
 pub const NO_SUBTUNE: &str = "  11   no such subtune: S of K\n";
 /// Status 12.
 pub const NOT_A_PSID: &str = "  12   not a PSID: bad magic, truncated, unsupported, bad field\n";
+/// Status 13.
+pub const STOPPED: &str =
+    "  13   machine stopped: illegal, break, decimal at $XXXX in call N, or no return in call N\n";
 /// Status 14.
 pub const NO_MEMORY: &str = "  14   no memory\n";
