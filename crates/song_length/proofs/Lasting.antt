@@ -1,5 +1,6 @@
 -- What follows from what is told of a song.
 use Rattle.std.proofs.Common.{ℕ, ◌+◌, ◌-◌, ◌*◌, ◌≤◌, Option, Some, None, subst, arith}
+use Rattle.std.proofs.lemmas.List.Elements.{All-from_get_or}
 use Rattle.cpu6502.specs.declared.machine.Machine.{Machine}
 use Rattle.cpu6502.proofs.Laws.{steps_take_few_cycles}
 use Rattle.sid_run.specs.State.{loaded, most_steps}
@@ -8,7 +9,7 @@ use Rattle.song_length.specs.declared.measuring.Repeat.{Repeat}
 use Rattle.song_length.specs.Plays.{PlayTold, Tells}
 use Rattle.song_length.specs.Measured.{IsDearest}
 use Rattle.song_length.specs.Told.{AreTold}
-use Rattle.song_length.specs.Laws.{MeasuredSongsGoOn, FewAreTold}
+use Rattle.song_length.specs.Laws.{MeasuredSongsGoOn, FewAreTold, PlaysCostLittle}
 use Rattle.song_length.proofs.Repeating.{repeating_songs_go_on}
 
 pub measured_songs_go_on : MeasuredSongsGoOn
@@ -31,6 +32,16 @@ told_few play first n told tells =
     let cycles = tells.cycles in
     omega (arith, few, within, cycles)
 
+pub plays_cost_little : PlaysCostLittle
+plays_cost_little psid song calls cycles is =
+    All-from_get_or (λ play. play ≤ 7 * most_steps) cycles 0
+    (λ i few.
+    let many = is.costs.as_many in
+    let its = is.costs.each i (omega (arith, few, many)) in
+    let least = told_few (loaded psid).play is.first i its.0 its.1 in
+    let same = its.2 in
+    omega (arith, least, same))
+
 dearest_few : (play : ℕ) (first : Machine) (n : ℕ) (dearest : Dearest) → IsDearest play first n (Some dearest) →
     dearest.cycles ≤ 7 * most_steps
 dearest_few play first n dearest is =
@@ -44,7 +55,7 @@ few_are_told psid song calls measured is = (init_few, by measured.repeat is.told
     init_few : measured.init ≤ 7 * most_steps
     init_few =
         let few = steps_take_few_cycles (loaded psid).machine (loaded psid).init song is.begins.steps in
-        let within = is.begins.within in
+        let within = is.begins.takes.within in
         let cycles = is.begins.cycles_are in
         omega (arith, few, within, cycles)
 

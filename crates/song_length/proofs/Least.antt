@@ -60,7 +60,7 @@ module _ (play : ℕ) (first : Machine) where
           the a b few = omega (arith, few)
 
       -- a state that comes again after the fewest plays from some place on comes again no sooner here
-      no_sooner : (place length : ℕ) → Repeats play first place length →
+      pub no_sooner : (place length : ℕ) → Repeats play first place length →
           ((k : ℕ) (m : Machine) → 1 ≤ k → k < length → Lead play place first m → ¬ Lead play (place + k) first m) →
           i + length ≤ j
       no_sooner place length r least = elim (cases_lt (j - i) length) [
@@ -82,7 +82,7 @@ module _ (play : ℕ) (first : Machine) where
           the a b c = omega arith
 
       -- and where it comes again after so many plays somewhere, it does here
-      comes_here : (place length : ℕ) → Repeats play first place length → Lead play (i + length) first machine
+      pub comes_here : (place length : ℕ) → Repeats play first place length → Lead play (i + length) first machine
       comes_here place length r =
           let far = times_reach place (j - i) (omega (arith, less)) in
           let on = many i (j - i) between place i machine (omega arith) one in

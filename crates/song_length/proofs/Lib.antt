@@ -1,3 +1,5 @@
+-- The door: what upper crates may cite.
+pub mod Laws
 -- What repeats goes on.
 mod Repeating
 -- The first repeat.
@@ -19,3 +21,5 @@ mod Lasting
 mod Once
 -- What is worked by hand.
 mod Worked
+-- What each play costs.
+mod Costing

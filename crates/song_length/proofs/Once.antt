@@ -1,24 +1,54 @@
 -- Of a song one thing is told.
-use Rattle.std.proofs.Common.{◌≡◌, ℕ, suc, ◌+◌, ◌-◌, ◌<◌, ◌≤◌, Option, Some, None, Ok, Err, inl, inr, refl, sym, ap, ◌∙◌}
+use Rattle.std.proofs.Common.{◌≡◌, ℕ, suc, ◌+◌, ◌-◌, ◌<◌, ◌≤◌, List, Option, Some, None, Ok, Err, inl, inr, refl, sym, ap, ◌∙◌}
 use Rattle.std.proofs.Common.{subst, arith}
 use Rattle.std.proofs.lemmas.Bool.{cases_lt}
+use Rattle.std.proofs.lemmas.Grind.{same_number_lists}
 use Rattle.cpu6502.specs.declared.machine.Machine.{Machine}
 use Rattle.cpu6502.specs.declared.stop.CallStop.{CallStop}
 use Rattle.cpu6502.specs.Call.{FailsBy, call_cycles}
-use Rattle.cpu6502.proofs.Laws.{called_once, returned_fails}
+use Rattle.cpu6502.specs.declared.stop.CallStop.TheVariants.{Stopped, Budget}
+use Rattle.cpu6502.proofs.Laws.{called_once, returned_fails, stopped_fails, under_way_fails}
 use Rattle.psid.specs.declared.header.Psid.{Psid}
 use Rattle.sid_run.specs.State.{loaded, most_steps}
 use Rattle.song_length.specs.declared.counts.Dearest.{Dearest}
 use Rattle.song_length.specs.declared.measuring.Repeat.{Repeat}
 use Rattle.song_length.specs.declared.measuring.Measured.{Measured}
-use Rattle.song_length.specs.Plays.{PlayTakes, Lead, Tells}
-use Rattle.song_length.specs.Measured.{IsDearest, NeverRepeats, IsFirstRepeat}
+use Rattle.song_length.specs.Plays.{Takes, PlayTakes, Lead, Tells}
+use Rattle.song_length.specs.Measured.{AreCosts, IsDearest, NeverRepeats, IsFirstRepeat}
 use Rattle.song_length.specs.Told.{Begins, AreTold, IsMeasured, StopsAt, init_stops, play_stops}
-use Rattle.song_length.specs.Laws.{SongsAreToldOnce}
+use Rattle.song_length.specs.Laws.{SongsAreToldOnce, SongsStopOnce, SongsCostOnce}
 use Rattle.song_length.proofs.Repeating.{one_machine, way_by}
 use Rattle.song_length.proofs.PlayingOn.{never_fails}
 use Rattle.song_length.proofs.Placing.{begins_once}
 use Rattle.song_length.proofs.Answering.{told_once}
+
+-- ---- calls that return, and others
+
+-- a call that returns doesn't fail
+pub never_both : (machine : Machine) (entry number steps : ℕ) (after failed : Machine) (reason : CallStop) →
+    Takes machine entry number steps after → FailsBy machine entry number most_steps reason failed → ⊥
+never_both machine entry number steps after failed reason takes fails =
+    let never : Ok 0 ≡ Err reason =
+    returned_fails machine entry number steps most_steps after failed reason (Ok 0) takes.called takes.within fails in
+    cc (never)
+
+-- and one that fails does for one reason
+pub fails_once : (machine : Machine) (entry number : ℕ) (one other : Machine) (reason why : CallStop) →
+    FailsBy machine entry number most_steps reason one → FailsBy machine entry number most_steps why other → reason ≡ why
+fails_once machine entry number one other (Stopped stop) why p q =
+    stopped_fails machine entry number most_steps p.0 stop one other why p.2 p.1 q
+fails_once machine entry number one other Budget why p q =
+    under_way_fails machine entry number most_steps one other why p q
+
+-- a play doesn't fail that others come behind
+play_before : (psid : Psid) (first before after last : Machine) (n m : ℕ) (reason : CallStop) → n < m →
+    Lead (loaded psid).play n first before → FailsBy before (loaded psid).play before.cpu.a most_steps reason after →
+    Lead (loaded psid).play m first last → ⊥
+play_before psid first before after last n m reason less led fails later =
+    let way = way_by (loaded psid).play (suc n) (m - suc n) m first last (omega (arith, less)) later in
+    let same = one_machine (loaded psid).play n first way.1.0 before way.1.2 led in
+    never_both before (loaded psid).play before.cpu.a way.1.1 way.0 after reason
+    (subst (λ m. PlayTakes (loaded psid).play m way.1.1 way.0) same way.1.3) fails
 
 -- ---- the dearest play
 
@@ -104,7 +134,7 @@ measured_of init dearest repeat = record { init = init; dearest = dearest; repea
 one_init : (psid : Psid) (song c d : ℕ) (first other : Machine) → Begins psid song c first →
     Begins psid song d other → d ≡ c
 one_init psid song c d first other p q =
-    let same = called_once (loaded psid).machine (loaded psid).init song p.steps q.steps first other p.called q.called in
+    let same = called_once (loaded psid).machine (loaded psid).init song p.steps q.steps first other p.takes.called q.takes.called in
     q.cycles_are ∙ sym (ap (call_cycles (loaded psid).machine (loaded psid).init song) same) ∙ sym p.cycles_are
 
 module _ (psid : Psid) (song calls : ℕ) (measured : Measured) (is : IsMeasured psid song calls measured) where
@@ -132,21 +162,12 @@ module _ (psid : Psid) (song calls : ℕ) (measured : Measured) (is : IsMeasured
           never_fails (loaded psid).play is.first (call - 1) before after reason
           (record { from = r.from; length = r.length; repeats = told.1.repeats }) led fails
       by None told =
-          let way = way_by (loaded psid).play (suc (call - 1)) (calls - call) calls is.first told.0.0
-          (omega (arith, some, few)) told.0.1 in
-          let same = one_machine (loaded psid).play (call - 1) is.first way.1.0 before way.1.2 led in
-          let takes = subst (λ m. PlayTakes (loaded psid).play m way.1.1 way.0) same way.1.3 in
-          let never : Ok 0 ≡ Err reason =
-          returned_fails before (loaded psid).play before.cpu.a way.1.1 most_steps way.0 after reason (Ok 0)
-          takes.called takes.within fails in
-          cc (never)
+          play_before psid is.first before after told.0.0 (call - 1) calls reason (omega (arith, some, few)) led fails
+          told.0.1
 
   returns : (call : ℕ) (reason : CallStop) → StopsAt psid song calls call reason → ⊥
   returns call reason (init_stops after zero fails) =
-      let never : Ok 0 ≡ Err reason =
-      returned_fails (loaded psid).machine (loaded psid).init song is.begins.steps most_steps is.first after reason (Ok 0)
-      is.begins.called is.begins.within fails in
-      cc (never)
+      never_both (loaded psid).machine (loaded psid).init song is.begins.steps is.first after reason is.begins.takes fails
   returns call reason (play_stops cycles first before after some few begins led fails) =
       let same = begins_once psid song cycles measured.init first is.first begins is.begins in
       no_stop call before after reason some few (subst (λ m. Lead (loaded psid).play (call - 1) m before) same led) fails
@@ -154,3 +175,56 @@ module _ (psid : Psid) (song calls : ℕ) (measured : Measured) (is : IsMeasured
 pub songs_are_told_once : SongsAreToldOnce
 songs_are_told_once psid song calls measured is =
     record { one = one psid song calls measured is; returns = returns psid song calls measured is }
+
+pub songs_stop_once : SongsStopOnce
+songs_stop_once psid song calls more call other reason why (init_stops after zero fails) (init_stops late none also) =
+    (zero ∙ sym none, fails_once (loaded psid).machine (loaded psid).init song after late reason why fails also)
+songs_stop_once psid song calls more call other reason why (init_stops after zero fails)
+    (play_stops cycles first before late some few begins led also) =
+    absurd
+    (never_both (loaded psid).machine (loaded psid).init song begins.steps first after reason begins.takes fails)
+songs_stop_once psid song calls more call other reason why
+    (play_stops cycles first before after some few begins led fails) (init_stops late none also) =
+    absurd (never_both (loaded psid).machine (loaded psid).init song begins.steps first late why begins.takes also)
+songs_stop_once psid song calls more call other reason why
+    (play_stops cycles first before after some few begins led fails)
+    (play_stops cost start between late any less starts way also) =
+    let same = begins_once psid song cycles cost first start begins starts in
+    let here = subst (λ m. Lead (loaded psid).play (call - 1) m before) same led in
+    elim (cases_lt call other) [
+      | inl sooner ↦
+          absurd
+          (play_before psid start before after between (call - 1) (other - 1) reason (omega (arith, sooner, some)) here fails
+          way)
+      | inr later ↦ elim (cases_lt other call) [
+        | inl sooner ↦
+            absurd
+            (play_before psid start between late before (other - 1) (call - 1) why (omega (arith, sooner, any)) way also
+            here)
+        | inr even ↦
+            let calls_are : call ≡ other = omega (arith, later, even) in
+            let led_there = subst (λ k. Lead (loaded psid).play (k - 1) start before) calls_are here in
+            let machine = one_machine (loaded psid).play (other - 1) start before between led_there way in
+            let fails_there =
+            subst (λ m. FailsBy m (loaded psid).play m.cpu.a most_steps reason after) machine fails in
+            (calls_are, fails_once between (loaded psid).play between.cpu.a after late reason why fails_there also)
+      ]
+    ]
+
+-- what plays cost is one list
+one_cost : (play : ℕ) (first : Machine) (n : ℕ) (cycles others : List ℕ) → AreCosts play first n cycles →
+    AreCosts play first n others → cycles ≡ others
+one_cost play first n cycles others p q =
+    same_number_lists cycles others
+    (p.as_many ∙ sym q.as_many)
+    (λ i few.
+    let many = p.as_many in
+    let one = p.each i (omega (arith, few, many)) in
+    let other = q.each i (omega (arith, few, many)) in
+    one.2 ∙ told_once play first i one.0 other.0 one.1 other.1 ∙ sym other.2)
+
+pub songs_cost_once : SongsCostOnce
+songs_cost_once psid song calls cycles others p q =
+    let same = begins_once psid song p.init q.init p.first q.first p.begins q.begins in
+    one_cost (loaded psid).play q.first calls cycles others
+    (subst (λ m. AreCosts (loaded psid).play m calls cycles) same p.costs) q.costs

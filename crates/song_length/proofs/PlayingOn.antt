@@ -1,5 +1,5 @@
 -- A song whose state comes again plays on.
-use Rattle.std.proofs.Common.{◌≡◌, ℕ, ◌+◌, ◌<◌, ◌≤◌, Ok, Err, sym, ◌∙◌, subst, arith, inl, inr}
+use Rattle.std.proofs.Common.{◌≡◌, ℕ, ◌+◌, ◌<◌, Ok, Err, sym, ◌∙◌, subst, arith, inl, inr}
 use Rattle.std.proofs.lemmas.Bool.{cases_lt}
 use Rattle.cpu6502.specs.declared.machine.Machine.{Machine}
 use Rattle.cpu6502.specs.declared.stop.CallStop.{CallStop}
@@ -54,14 +54,6 @@ module _ (play from : ℕ) (one other a b : Machine) (of_one : Lead play from on
       apart
       (one_machine play from one a meet.machine of_one meet.of_one
       ∙ sym (one_machine play from other b meet.machine of_other meet.of_other))
-
-  pub meet_later : (most : ℕ) → from ≤ most → MeetAt play one other most → from < most
-  meet_later most few meet = elim (cases_lt from most) [
-    | inl less ↦ less
-    | inr here ↦
-        let same : most ≡ from = omega (arith, few, here) in
-        absurd (no_meeting (subst (MeetAt play one other) same meet))
-  ]
 
   pub apart_more : ((place : ℕ) → place < from → MeetAt play one other place → ⊥) → (place : ℕ) → place < from + 1 →
       MeetAt play one other place → ⊥

@@ -1,5 +1,5 @@
 -- What is worked by hand.
-use Rattle.std.proofs.Common.{◌≡◌, ℕ, zero, suc, ◌+◌, ◌<◌, ◌≤◌, ◌∷◌, Result, Ok, Err, length, slice_index}
+use Rattle.std.proofs.Common.{◌≡◌, ℕ, zero, suc, ◌+◌, ◌<◌, ◌≤◌, List, [], ◌∷◌, Some, Result, Ok, Err, length, get_or, slice_index}
 use Rattle.std.proofs.Common.{refl, sym, ap, ◌∙◌, subst, arith}
 use Rattle.cpu6502.specs.declared.machine.Machine.{Machine}
 use Rattle.cpu6502.specs.declared.stop.Stop.{Stop}
@@ -8,9 +8,9 @@ use Rattle.cpu6502.proofs.Laws.{called_once}
 use Rattle.sid_run.specs.State.{sid_registers}
 use Rattle.song_length.specs.Plays.{PlayTakes, Lead, PlayTold, Tells}
 use Rattle.song_length.specs.Repeats.{Repeats}
-use Rattle.song_length.specs.Measured.{NeverRepeats}
+use Rattle.song_length.specs.Measured.{AreCosts, IsDearest, IsFirstRepeat, NeverRepeats}
 use Rattle.song_length.specs.WorkedSongs.{silent, silence, at_last, at_zero, at_one}
-use Rattle.song_length.specs.WorkedSongs.{PlaysAreWorked, RepeatsAreWorked, DearestAreWorked}
+use Rattle.song_length.specs.WorkedSongs.{PlaysAreWorked, RepeatsAreWorked, DearestAreWorked, ToldAreWorked}
 use Rattle.song_length.proofs.Repeating.{one_after, one_machine}
 use Rattle.song_length.proofs.Answering.{told_once}
 
@@ -149,14 +149,17 @@ none_in_two (suc zero) (suc (suc zero)) machine less few one other =
 none_in_two (suc zero) (suc (suc (suc j))) machine less few one other = omega (arith, few)
 none_in_two (suc (suc i)) j machine less few one other = omega (arith, less, few)
 
+silent_first : IsFirstRepeat 0x10 silent 0 1
+silent_first = record {
+  repeats = silent_repeats;
+  least = λ i j machine less one other. (omega arith, omega (arith, less));
+}
+
 pub repeats_are_worked : RepeatsAreWorked
 repeats_are_worked = record {
   repeats = silent_repeats;
   not_after_none = λ r. (let some = r.some in omega (arith, some));
-  at_once = record {
-    repeats = silent_repeats;
-    least = λ i j machine less one other. (omega arith, omega (arith, less));
-  };
+  at_once = silent_first;
   no_later = λ r.
       (let low = (r.least 0 1 silent (omega arith) refl (silent_leads 1)).0 in omega (arith, low));
   no_longer = λ r.
@@ -232,4 +235,43 @@ dearest_are_worked = record {
   second = (omega arith, omega arith, (told_one, tells_one, refl), most_of, less_of);
   no_cheaper = λ d. (let most : 14 ≤ 13 = d.3 1 told_one (omega arith) tells_one in omega (arith, most));
   not_of_one = λ d. (let within = d.1 in omega (arith, within));
+}
+
+-- ---- what is told
+
+silent_dearest : IsDearest 0x10 silent 1 (Some (record { cycles = 6; call = 1 }))
+silent_dearest = (
+  omega arith,
+  omega arith,
+  (silence 1 6, silent_tells 0, refl),
+  (λ i told few tells. (let e = silent_six i told tells in omega (arith, e))),
+  (λ i told few tells. omega (arith, few)),
+)
+
+costs_of : (i : ℕ) → i < 2 → (told : PlayTold) × Tells 0x10 at_last i told × (get_or (13 ∷ 14 ∷ []) i 0 ≡ told.cycles)
+costs_of zero few = (told_zero, tells_zero, refl)
+costs_of (suc zero) few = (told_one, tells_one, refl)
+costs_of (suc (suc i)) few = absurd (omega (arith, few))
+
+-- the first play takes 13
+first_cost : (cycles : List ℕ) → AreCosts 0x10 at_last 2 cycles → get_or cycles 0 0 ≡ 13
+first_cost cycles are =
+    let its = are.each 0 (omega arith) in
+    its.2 ∙ told_once 0x10 at_last 0 its.0 told_zero its.1 tells_zero
+
+pub told_are_worked : ToldAreWorked
+told_are_worked = record {
+  repeats = (omega arith, silent_first, silent_dearest);
+  not_in_none = λ told. (let few = told.0 in omega (arith, few));
+  not_unrepeated = λ told. told.1 0 1 silent (omega arith) (omega arith) refl (silent_leads 1);
+  no_other_dearest = λ told.
+      (let e : told.2.2.0.cycles ≡ 6 = silent_six 0 told.2.2.0 told.2.2.1 in
+      let other = told.2.2.2 in
+      omega (arith, e, other));
+  unrepeated = ((at_one, to_one), none_in_two, (omega arith, omega arith, (told_one, tells_one, refl), most_of, less_of));
+  costs = record { as_many = refl; each = costs_of };
+  no_steps = λ are. (let e : 3 ≡ 13 = first_cost (3 ∷ 3 ∷ []) are in omega (arith, e));
+  in_order = λ are. (let e : 14 ≡ 13 = first_cost (14 ∷ 13 ∷ []) are in omega (arith, e));
+  not_fewer = λ are. (let e : 1 ≡ 2 = are.as_many in omega (arith, e));
+  not_more = λ are. (let e : 3 ≡ 2 = are.as_many in omega (arith, e));
 }

@@ -9,9 +9,10 @@ use Rattle.song_length.specs.declared.playing.Playing.{Playing}
 use Rattle.song_length.specs.declared.counts.Counts.{Counts}
 use Rattle.song_length.specs.declared.measuring.MeasureFault.{MeasureFault}
 use Rattle.song_length.specs.declared.measuring.MeasureFault.TheVariants.{NoMemory, Stopped}
-use Rattle.song_length.specs.Plays.{Lead, PlaysOn}
+use Rattle.song_length.specs.Plays.{Lead, PlaysReturn}
 use Rattle.song_length.specs.Repeats.{Repeats}
-use Rattle.song_length.specs.Measured.{IsDearest, NeverRepeats}
+use Rattle.song_length.specs.declared.measuring.Repeat.{Repeat}
+use Rattle.song_length.specs.Measured.{IsDearest, NeverRepeats, IsFirstRepeat}
 use Rattle.song_length.specs.Told.{Begins}
 
 -- it has come from the machine after init so far, and the dearest of its first plays is known
@@ -94,6 +95,19 @@ pub record MeetAt (play : ℕ) (one other : Machine) (plays : ℕ) : Type 0 wher
   pub of_one : Lead play plays one machine
   pub of_other : Lead play plays other machine
 
+-- the first place at which they do, up to the most
+abbrev pub IsFirstMeeting : ℕ → Machine → Machine → ℕ → Option ℕ → Type 0
+IsFirstMeeting play one other most (Some from) =
+    (from ≤ most) × MeetAt play one other from × ((place : ℕ) → place < from → ¬ MeetAt play one other place)
+IsFirstMeeting play one other most None = (place : ℕ) → place ≤ most → ¬ MeetAt play one other place
+
+-- the first place from which on the state comes again after so many plays, and no fewer, in the first calls; none where there
+-- is no such place
+abbrev pub IsFoundIn : ℕ → Machine → ℕ → ℕ → Option Repeat → Type 0
+IsFoundIn play first length calls (Some repeat) =
+    (repeat.from + repeat.length ≤ calls) × IsFirstRepeat play first repeat.from repeat.length
+IsFoundIn play first length calls None = (from : ℕ) → from + length ≤ calls → ¬ Repeats play first from length
+
 -- what is found out in the first plays: the state comes again after so many, and after no fewer from that place on; or no two
 -- of the first states are the same, up to as many plays as were asked for. The dearest play is known, of the plays that were
 -- made, but of no more than were asked for
@@ -103,7 +117,7 @@ IsSearched play first calls counts (Some length) =
     × ComesNoSooner play first place length
     × IsDearest play first (min counts.calls calls) counts.dearest
 IsSearched play first calls counts None =
-    PlaysOn play calls first × NeverRepeats play first calls × IsDearest play first calls counts.dearest
+    PlaysReturn play calls first × NeverRepeats play first calls × IsDearest play first calls counts.dearest
 
 -- a play of a song, one of the first ones, doesn't return; all before it do
 abbrev pub IsPlayFault : ℕ → Machine → ℕ → MeasureFault → Type 0
@@ -119,9 +133,9 @@ pub record IsStarted (psid : Psid) (song : ℕ) (runner : RunnerState) : Type 0 
   pub running : runner.stopped ≡ None
 
 -- from this place on, and maybe sooner, the state of a song comes again after so many plays, and after no fewer
-pub record ComesFrom (psid : Psid) (song most length : ℕ) : Type 0 where
+pub record ComesFrom (psid : Psid) (song place length : ℕ) : Type 0 where
   pub cycles : ℕ
   pub first : Machine
   pub begins : Begins psid song cycles first
-  pub repeats : Repeats (loaded psid).play first most length
-  pub fewest : ComesNoSooner (loaded psid).play first most length
+  pub repeats : Repeats (loaded psid).play first place length
+  pub fewest : ComesNoSooner (loaded psid).play first place length

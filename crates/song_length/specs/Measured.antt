@@ -1,5 +1,5 @@
--- What is told of a song: its init, the dearest of its plays, and when its state comes again.
-use Rattle.std.specs.Prelude.{◌≡◌, ℕ, ◌+◌, ◌-◌, ◌<◌, ◌≤◌, Option, Some, None}
+-- What is told of a song's plays: the dearest, what each costs, and when its state comes again.
+use Rattle.std.specs.Prelude.{◌≡◌, ℕ, ◌+◌, ◌-◌, ◌<◌, ◌≤◌, List, Option, Some, None, length, get_or}
 use Rattle.cpu6502.specs.declared.machine.Machine.{Machine}
 use Rattle.song_length.specs.declared.counts.Dearest.{Dearest}
 use Rattle.song_length.specs.Plays.{Lead, PlayTold, Tells}
@@ -14,6 +14,11 @@ IsDearest play first n (Some dearest) =
     × ((told : PlayTold) × Tells play first (dearest.call - 1) told × (told.cycles ≡ dearest.cycles))
     × ((i : ℕ) (told : PlayTold) → i < n → Tells play first i told → told.cycles ≤ dearest.cycles)
     × ((i : ℕ) (told : PlayTold) → i + 1 < dearest.call → Tells play first i told → told.cycles < dearest.cycles)
+
+-- the first plays of a song, so many, take these clock cycles, in order
+pub record AreCosts (play : ℕ) (first : Machine) (n : ℕ) (cycles : List ℕ) : Type 0 where
+  pub as_many : length cycles ≡ n
+  pub each : (i : ℕ) → i < n → (told : PlayTold) × Tells play first i told × (get_or cycles i 0 ≡ told.cycles)
 
 -- no two of the states after the first plays, up to so many, are the same
 abbrev pub NeverRepeats : ℕ → Machine → ℕ → Type 0

@@ -6,7 +6,9 @@ use Rattle.cpu6502.specs.declared.machine.Machine.{Machine}
 use Rattle.sid_run.specs.State.{cleared_cpu, sid_registers}
 use Rattle.song_length.specs.Plays.{PlayTakes, Lead, PlayTold, Tells}
 use Rattle.song_length.specs.Repeats.{Repeats}
-use Rattle.song_length.specs.Measured.{IsDearest, NeverRepeats, IsFirstRepeat}
+use Rattle.song_length.specs.declared.counts.Dearest.{Dearest}
+use Rattle.song_length.specs.Measured.{AreCosts, IsDearest, NeverRepeats, IsFirstRepeat}
+use Rattle.song_length.specs.Told.{AreTold}
 
 -- a number at $02, a play at $10, and the two bytes that a caller has pushed
 abbrev pub memory_of : ℕ → List ℕ → List ℕ
@@ -69,3 +71,19 @@ pub record DearestAreWorked : Type 0 where
   pub second : IsDearest 0x10 at_last 2 (Some (record { cycles = 14; call = 2 }))
   pub no_cheaper : ¬ IsDearest 0x10 at_last 2 (Some (record { cycles = 13; call = 1 }))
   pub not_of_one : ¬ IsDearest 0x10 at_last 1 (Some (record { cycles = 14; call = 2 }))
+
+-- a play of 6 clock cycles, the first
+abbrev pub first_of_six : Dearest
+first_of_six = record { cycles = 6; call = 1 }
+
+pub record ToldAreWorked : Type 0 where
+  pub repeats : AreTold 0x10 silent 1 first_of_six (Some (record { from = 0; length = 1 }))
+  pub not_in_none : ¬ AreTold 0x10 silent 0 first_of_six (Some (record { from = 0; length = 1 }))
+  pub not_unrepeated : ¬ AreTold 0x10 silent 1 first_of_six None
+  pub no_other_dearest : ¬ AreTold 0x10 silent 1 (record { cycles = 7; call = 1 }) (Some (record { from = 0; length = 1 }))
+  pub unrepeated : AreTold 0x10 at_last 2 (record { cycles = 14; call = 2 }) None
+  pub costs : AreCosts 0x10 at_last 2 (13 ∷ 14 ∷ [])
+  pub no_steps : ¬ AreCosts 0x10 at_last 2 (3 ∷ 3 ∷ [])
+  pub in_order : ¬ AreCosts 0x10 at_last 2 (14 ∷ 13 ∷ [])
+  pub not_fewer : ¬ AreCosts 0x10 at_last 2 (13 ∷ [])
+  pub not_more : ¬ AreCosts 0x10 at_last 2 (13 ∷ 14 ∷ 13 ∷ [])

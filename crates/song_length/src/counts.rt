@@ -6,7 +6,7 @@ ghost use Rattle.song_length.specs.Counts.{is_dearer};
 /// The dearest of a song's plays.
 #[derive(Clone, Copy, Debug, PartialEq, Eq)]
 pub struct Dearest {
-    /// Its clock cycles.
+    /// Its clock cycles, at most 1,400,000.
     pub cycles: u64,
     /// Its number, counted from 1.
     pub call: u32,

@@ -9,10 +9,12 @@
 
 /// Facts about the definitions.
 pub mod claims;
+mod costs;
 mod counts;
 mod measuring;
 mod places;
 mod playing;
 
-pub use counts::{Counts, Dearest};
+pub use costs::play_cycles;
+pub use counts::Dearest;
 pub use measuring::{MOST_CALLS, MeasureFault, Measured, Repeat, measure};

@@ -3,9 +3,8 @@
 ghost use Rattle.std.specs.Prelude.{◌≡◌, ℕ, ◌+◌, ◌≤◌, None, length, IfOk, IfErr};
 ghost use Rattle.cpu6502.specs.declared.memory.TheConstants.{MEMORY_SIZE};
 ghost use Rattle.song_length.specs.declared.measuring.TheConstants.{MOST_CALLS};
-ghost use Rattle.song_length.specs.Coming.{IsSearched, IsPlayFault, IsStarted, ComesFrom};
+ghost use Rattle.song_length.specs.Coming.{IsSearched, IsPlayFault, IsStarted, ComesFrom, IsFoundIn};
 ghost use Rattle.song_length.specs.Told.{IsMeasured, IsFault, Begins};
-ghost use Rattle.song_length.specs.Measured.{IsFirstRepeat};
 ghost use Rattle.cpu6502.specs.declared.machine.Machine.{Machine as State};
 ghost use Rattle.sid_run.specs.State.{loaded};
 
@@ -61,7 +60,7 @@ impl From<NoMemory> for MeasureFault {
 }
 
 /// A runner behind init of a song, which is counted from 0.
-fn started(alloc: Global, psid: &Psid, song: u8) -> Result<Runner, MeasureFault>
+pub(crate) fn started(alloc: Global, psid: &Psid, song: u8) -> Result<Runner, MeasureFault>
     requires { psid.now.load + length psid.now.image ≤ MEMORY_SIZE }
     ensures started { IfOk result (IsStarted psid.now song) }
     ensures fault { IfErr result (IsFault psid.now song 0) }
@@ -125,29 +124,38 @@ fn search(alloc: Global, runner: Runner, calls: u32) -> Result<(Counts, Option<u
     }
 }
 
-/// The first call behind which the state of a song comes again, where it does after so many plays behind a later one.
+/// When the state of a song comes again, which does after so many plays from some call on; none where that is after more
+/// calls than are asked for.
 ///
 /// # Errors
 ///
 /// Out of memory.
-fn place_of(
+fn repeat_of(
     alloc: Global,
     psid: &Psid,
     song: u8,
     plays: u32,
-    most: u32,
-) -> Result<u32, MeasureFault>
+    calls: u32,
+) -> Result<Option<Repeat>, MeasureFault>
     requires fits { psid.now.load + length psid.now.image ≤ MEMORY_SIZE }
-    requires comes { ComesFrom psid.now song most plays }
-    ensures place { IfOk result (λ from. (cycles : ℕ) (first : State) → Begins psid.now song cycles first →
-        IsFirstRepeat (loaded psid.now).play first from plays) }
-    ensures few { IfOk result (λ from. from ≤ most) }
+    requires comes { (place : ℕ) × ComesFrom psid.now song place plays }
+    ensures found { IfOk result (λ repeat. (cycles : ℕ) (first : State) → Begins psid.now song cycles first →
+        IsFoundIn (loaded psid.now).play first plays calls repeat) }
     ensures fault { IfErr result (IsFault psid.now song 0) }
 {
+    if calls < plays {
+        return Ok(None);
+    }
     let mut one = started(alloc, psid, song)?;
     let mut later = started(alloc, psid, song)?;
     advance(&mut later, plays);
-    Ok(first_place(&mut one, &mut later, most))
+    match first_place(&mut one, &mut later, calls - plays) {
+        Some(from) => Ok(Some(Repeat {
+            from,
+            length: plays,
+        })),
+        None => Ok(None),
+    }
 }
 
 /// What is told of a song, whose number counts from 0, in its first plays, 1 to [`MOST_CALLS`] of them. Plays count from
@@ -174,10 +182,7 @@ pub fn measure(alloc: Global, psid: &Psid, song: u8, calls: u32) -> Result<Measu
     };
     let mut repeat = None;
     if let Some(length) = found {
-        let from = place_of(alloc, psid, song, length, counts.calls - length)?;
-        if from + length <= calls {
-            repeat = Some(Repeat { from, length });
-        }
+        repeat = repeat_of(alloc, psid, song, length, calls)?;
     }
     Ok(Measured {
         init,

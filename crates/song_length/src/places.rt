@@ -2,7 +2,7 @@
 
 ghost use Rattle.std.specs.Prelude.{◌≡◌, ℕ, ◌<◌, ◌≤◌, None};
 ghost use Rattle.song_length.specs.Plays.{Lead};
-ghost use Rattle.song_length.specs.Coming.{HasRepeat, MeetAt};
+ghost use Rattle.song_length.specs.Coming.{HasRepeat, IsFirstMeeting};
 
 use sid_run::Runner;
 
@@ -37,22 +37,22 @@ pub fn advance(runner: &mut Runner, plays: u32)
 }
 
 /// After how many plays the states of a song are those that come behind a later one of its states, from which another runner
-/// begins: the first place at which it is so, of so many.
-pub fn first_place(one: &mut Runner, other: &mut Runner, most: u32) -> u32
+/// begins: the first place at which it is so, up to the most.
+pub fn first_place(one: &mut Runner, other: &mut Runner, most: u32) -> Option<u32>
     requires running { (one.old.stopped ≡ None) × (other.old.stopped ≡ None) }
     requires address { other.old.play ≡ one.old.play }
     requires repeats { HasRepeat one.old.play one.old.machine }
     requires later { HasRepeat one.old.play other.old.machine }
-    requires there { MeetAt one.old.play one.old.machine other.old.machine most }
-    ensures few { result ≤ most }
-    ensures meet { MeetAt one.old.play one.old.machine other.old.machine result }
-    ensures first { (place : ℕ) → place < result → ¬ MeetAt one.old.play one.old.machine other.old.machine place }
+    ensures { IsFirstMeeting one.old.play one.old.machine other.old.machine most result }
 {
     let mut from = 0;
     while !one.machine().is_same(other.machine()) {
+        if from == most {
+            return None;
+        }
         play_on(&mut *one);
         play_on(&mut *other);
         from += 1;
     }
-    from
+    Some(from)
 }

@@ -4,8 +4,8 @@ use Rattle.song_length.specs.Plays.{Lead}
 use Rattle.song_length.specs.Coming.{HasRepeat, MeetAt}
 use Rattle.song_length.proofs.places.first_place.Given as goal
 
-abbrev pub invariant-loop-one : goal.invariant-loop-one
-invariant-loop-one l = record {
+abbrev pub invariant-loop-most : goal.invariant-loop-most
+invariant-loop-most l = record {
   few : l.from ≤ l.most;
   one : Lead l.initial.one.play l.from l.initial.one.machine l.one.machine;
   other : Lead l.initial.one.play l.from l.initial.other.machine l.other.machine;
@@ -18,5 +18,5 @@ invariant-loop-one l = record {
   apart : (place : ℕ) → place < l.from → ¬ MeetAt l.initial.one.play l.initial.one.machine l.initial.other.machine place;
 }
 
-abbrev pub decreases-loop-one : goal.decreases-loop-one
-decreases-loop-one l = l.most - l.from
+abbrev pub decreases-loop-most : goal.decreases-loop-most
+decreases-loop-most l = l.most - l.from
