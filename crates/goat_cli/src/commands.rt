@@ -1,4 +1,5 @@
-//! The job of a run, done by its command: a chain of stages, in a file of its own here, in `jobs` or in `file_jobs`.
+//! The job of a run, done by its command: a chain of stages, in a file of its own here, in `jobs`, in `file_jobs`
+//! or in `length_jobs`.
 
 ghost use Rattle.command_line.specs.Job.{job_of};
 ghost use Rattle.command_line.specs.Last.{last_word};
@@ -88,5 +89,14 @@ pub fn perform<'a, F: Folder, K: Sink>(
             certificate,
             options,
         } => file_jobs::bound::check_bound(alloc, input, certificate, options, folder),
+        Job::Measure { input, calls } => {
+            length_jobs::measure::measure_songs(alloc, input, calls, folder, line, out)
+        }
+        Job::Chart {
+            input,
+            output,
+            subtune,
+            calls,
+        } => length_jobs::chart::draw_song(alloc, input, output, subtune, calls, folder),
     }
 }

@@ -1,6 +1,6 @@
 //! The top call: words, files and the sink.
 
-ghost use Rattle.std.specs.Prelude.{◌≡◌, ℕ, ◌+◌, ◌-◌, List, [], ◌∷◌, Option, Some, IfSome};
+ghost use Rattle.std.specs.Prelude.{◌≡◌, ◌≢◌, ℕ, ◌+◌, ◌-◌, List, [], ◌∷◌, Option, Some, IfSome};
 ghost use Rattle.goat_io.specs.Written.{told_with_piece};
 ghost use Rattle.song_model.specs.declared.songs.Song.{Song};
 ghost use Rattle.song_model.specs.Canonical.{canonical};
@@ -11,6 +11,8 @@ ghost use Rattle.jobs.specs.Due.{IsDue, IsOneOf, instead};
 ghost use Rattle.jobs.specs.Stands.{folder_state, sink_state, RunStands, Counted};
 ghost use Rattle.jobs.specs.Answers.{HoldsDone, IsOrdinary, IsPrinted, IsBeforeWriting, ComesAbout, ComesWhere};
 ghost use Rattle.jobs.specs.Answers.{SinkCounted, RunsPacked, AssemblesListing, AsksToMake, AsksToJoin, HoldsJoined};
+ghost use Rattle.jobs.specs.Answers.{AsksToMeasure, TellsForEver, RunsRepeating};
+ghost use Rattle.psid.specs.declared.header.Psid.{Psid};
 ghost use Rattle.jobs.specs.Jobs.{stages};
 ghost use Rattle.jobs.specs.Outcome.{files_after};
 ghost use Rattle.jobs.specs.Packed.{raw_file};
@@ -66,6 +68,12 @@ pub fn goat<F: Folder, K: Sink>(alloc: Global, words: &[String], folder: &mut F,
     ensures joined { IfSome (F.files folder.old) (λ files. (first second : Song) (output : List ℕ) →
         AsksToJoin (texts words.now) files first second output → result ≡ 0 →
         HoldsJoined files first second output (F.files folder.new)) }
+
+    // What is told of a subtune that repeats holds for every call that there will ever be, and a run of it meets no stop.
+    ensures measured { IfSome (F.files folder.old) (λ files. (psid : Psid) (calls : ℕ) →
+        AsksToMeasure (texts words.now) files psid calls → result ≡ 0 →
+        TellsForEver psid calls (K.written out.old) (K.written out.new)) }
+    ensures returning { IfSome (F.files folder.old) (λ files. RunsRepeating (texts words.now) files → result ≢ 13) }
 
     // A job without stages, help, version or a self test, asks for nothing but memory and the sink.
     ensures fileless { (job : Asked) → WordsOf (texts words.now) job → stages job ≡ [] →

@@ -18,7 +18,9 @@ use Rattle.jobs.specs.Due.{IsDue, IsOneOf, instead}
 use Rattle.jobs.specs.Stands as stands
 use Rattle.jobs.specs.Stands.{FolderState, SinkState, AreFiles, Counted, Appends, Account, TellsWant, Stands, RunStands}
 use Rattle.jobs.specs.Answers.{IsOrdinary, IsPrinted, IsBeforeWriting, HoldsDone, ComesAbout, ComesWhere, SinkCounted}
-use Rattle.jobs.specs.Answers.{RunsPacked, AssemblesListing, AsksToMake, AsksToJoin, HoldsJoined}
+use Rattle.jobs.specs.Answers.{RunsPacked, AssemblesListing, AsksToMake, AsksToJoin, HoldsJoined, AsksToMeasure}
+use Rattle.jobs.specs.Answers.{TellsForEver, RunsRepeating}
+use Rattle.psid.specs.declared.header.Psid.{Psid}
 use Rattle.jobs.specs.Packed.{raw_file}
 use Rattle.jobs.specs.Traces.{first_traces}
 use Rattle.play_model.specs.declared.options.Options.{Options}
@@ -26,6 +28,7 @@ use Rattle.command_line.proofs.Laws.{one_job}
 use Rattle.jobs.proofs.Told.{as_before}
 use Rattle.jobs.proofs.Due.{is_no_stage, ends_with_stage, done_under, outcome_due, one_due, one_text}
 use Rattle.jobs.proofs.Joining.{songs_join}
+use Rattle.jobs.proofs.MeasuredFiles.{tells_lengths, all_go_on, run_meets_no_stop}
 use Rattle.jobs.proofs.Listed.{listing_is_due, writes_image}
 use Rattle.jobs.proofs.PlayedFiles.{packed_file_plays, packed_file_is_due}
 use Rattle.jobs.proofs.Fileless.{answered}
@@ -190,16 +193,18 @@ module _ {words : List (List ℕ)} {files : Files} where
           always = λ none. absurd (writes_of_form (written_under o) none);
         }
 
--- the status of what was done is ordinary
+-- a status other than those of devices and of memory is ordinary
+is_ordinary : {answer : ℕ} (status : ℕ) → status ≢ 4 → status ≢ 9 → status ≢ 10 → status ≢ 14 → answer ≡ status →
+    IsOrdinary answer
+is_ordinary {answer} status read write sink want is = record {
+  no_read_fault = λ same. read (sym is ∙ same);
+  no_write_fault = λ same. write (sym is ∙ same);
+  no_sink_fault = λ same. sink (sym is ∙ same);
+  no_want = λ same. want (sym is ∙ same);
+}
+
 zero_is_ordinary : {answer : ℕ} → answer ≡ 0 → IsOrdinary answer
-zero_is_ordinary {answer} zero =
-    let other : (n : ℕ) → 0 ≢ n → answer ≢ n = λ n differ same. differ (sym zero ∙ same) in
-    record {
-      no_read_fault = other 4 (λ e. omega arith);
-      no_write_fault = other 9 (λ e. omega arith);
-      no_sink_fault = other 10 (λ e. omega arith);
-      no_want = other 14 (λ e. omega arith);
-    }
+zero_is_ordinary = is_ordinary 0 (λ e. omega arith) (λ e. omega arith) (λ e. omega arith) (λ e. omega arith)
 
 -- ---- what stands
 
@@ -229,6 +234,7 @@ module _ {words : List (List ℕ)} {files : Files} {answer : ℕ} {folder after 
   whole_or_cut (stands.cut_in_line earlier later line kept printing ten fails) = inr (inl ten)
   whole_or_cut (stands.wanting earlier later line printing tells) = inr (wants tells)
   whole_or_cut (stands.wanting_first stays tells) = inr (wants tells)
+  whole_or_cut (stands.wanting_next lines printing stays tells) = inr (wants tells)
 
   holds_done : folder.told ≡ Some files → Stands words files answer folder after s t → answer ≡ 0 →
       HoldsDone words files after.told
@@ -270,6 +276,7 @@ module _ {words : List (List ℕ)} {files : Files} {answer : ℕ} {folder after 
       record { rose = λ is. fails.faults; stays = λ other. absurd (other ten) }
   sink_is_counted (stands.wanting earlier later line printing tells) = sink_of_want tells
   sink_is_counted (stands.wanting_first stays tells) = sink_of_want tells
+  sink_is_counted (stands.wanting_next lines printing stays tells) = sink_of_want tells
 
   early_stays : Stands words files answer folder after s t → IsBeforeWriting answer → after.told ≡ folder.told
   early_stays is early = elim (whole_or_cut is) [
@@ -333,6 +340,28 @@ module _ {words : List (List ℕ)} {files : Files} {answer : ℕ} {folder after 
         came.appended ∙ ap (λ lines. told_with_piece s.told (concat lines)) same),
   )
 
+  -- what is told of subtunes holds for ever
+  told_for_ever : folder.told ≡ Some files → Stands words files answer folder after s t → (psid : Psid) (calls : ℕ) →
+      AsksToMeasure words files psid calls → answer ≡ 0 → TellsForEver psid calls s.told t.told
+  told_for_ever known is psid calls asked zero =
+      let came = outcome_is known is (zero_is_ordinary zero) in
+      let mine = subst (λ n. Outcome words files n came.lines came.write) zero came.outcome in
+      let tells = tells_lengths asked mine in
+      record {
+        told = tells.told;
+        are = tells.are;
+        printed_is = came.appended ∙ ap (λ lines. told_with_piece s.told (concat lines)) tells.lines_are;
+        go_on = all_go_on psid calls psid.header.songs tells.told tells.are;
+      }
+
+  -- and a run of one that repeats doesn't stop
+  run_goes_on : folder.told ≡ Some files → Stands words files answer folder after s t → RunsRepeating words files →
+      answer ≢ 13
+  run_goes_on known is runs thirteen =
+      let ordinary = is_ordinary 13 (λ e. omega arith) (λ e. omega arith) (λ e. omega arith) (λ e. omega arith) thirteen in
+      let came = outcome_is known is ordinary in
+      run_meets_no_stop runs (subst (λ n. Outcome words files n came.lines came.write) thirteen came.outcome)
+
 -- ---- the same of a folder that may tell its files or not
 
 for_told : (told : Option Files) (files : Files) (P Q : Files → Type 0) → AreFiles told files → P files →
@@ -394,6 +423,14 @@ module _ {words : List (List ℕ)} {answer : ℕ} {folder after : FolderState} {
       (λ files. (first second : Song) (output : List ℕ) → AsksToJoin words files first second output → answer ≡ 0 →
       HoldsJoined files first second output after.told)
   joined_plays = told_case _ (λ files known is. joins_songs known is)
+
+  pub lengths_hold : IfSome folder.told
+      (λ files. (psid : Psid) (calls : ℕ) → AsksToMeasure words files psid calls → answer ≡ 0 →
+      TellsForEver psid calls s.told t.told)
+  lengths_hold = told_case _ (λ files known is. told_for_ever known is)
+
+  pub repeating_runs : IfSome folder.told (λ files. RunsRepeating words files → answer ≢ 13)
+  repeating_runs = told_case _ (λ files known is. run_goes_on known is)
 
   pub fileless_comes : (job : Job) → WordsOf words job → stages job ≡ [] → IsOneOf (0 ∷ 10 ∷ 14 ∷ []) answer
   fileless_comes job form bare = answered form bare run.stands

@@ -1,5 +1,5 @@
 -- What is told of numbers holds of packed files, and what `bound` writes is admitted.
-use Rattle.std.proofs.Common.{◌≡◌, ◌≢◌, ℕ, ◌+◌, ◌≤◌, ◌<◌, ◌++◌, List, [], ◌∷◌, length, Option, Some, None, Bool, inl, inr}
+use Rattle.std.proofs.Common.{◌≡◌, ◌≢◌, ℕ, ◌≤◌, ◌++◌, List, [], ◌∷◌, length, Some, None, inl, inr}
 use Rattle.std.proofs.Common.{refl, sym, ap, ◌∙◌, subst, arith}
 use Rattle.std.proofs.lemmas.Bool.{cases_lt}
 use Rattle.goat_io.specs.Files.{Files, file_of, with_file}
@@ -22,7 +22,7 @@ use Rattle.command_line.specs.Words.{Bound, BoundCheck}
 use Rattle.jobs.specs.Lines.{bound_line, too_long_line}
 use Rattle.jobs.specs.SongPrograms.{HasProgram}
 use Rattle.jobs.specs.Certificates.{IsAdmittedText}
-use Rattle.jobs.specs.Stages.{IsThere, Fits, SpellsSong, CanBePlayed, HasShortPatterns, IsAdmitted, HoldsSong, Ends, Passes}
+use Rattle.jobs.specs.Stages.{IsThere, Fits, SpellsSong, CanBePlayed, HasShortPatterns, IsAdmitted, HoldsSong, Passes}
 use Rattle.jobs.specs.Stages.{AllPass, input_limit, certificate_limit}
 use Rattle.jobs.specs.Jobs.{stages, Done}
 use Rattle.jobs.specs.Outcome.{files_after}

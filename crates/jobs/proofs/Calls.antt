@@ -8,10 +8,11 @@ use Rattle.std.specs.List.{concat}
 use Rattle.cpu6502.specs.declared.machine.Machine.{Machine}
 use Rattle.cpu6502.specs.declared.stop.CallStop.{CallStop}
 use Rattle.cpu6502.specs.Call.{run, entered, Called, FailsBy}
-use Rattle.cpu6502.specs.declared.stop.CallStop.TheVariants.{Stopped, Budget}
-use Rattle.cpu6502.proofs.Laws.{called_once, returned_fails, stopped_fails, under_way_fails}
+use Rattle.cpu6502.proofs.Laws.{called_once}
 use Rattle.sid_run.specs.State.{RunnerState, sid_registers, most_steps}
-use Rattle.jobs.specs.Calls.{entry_of, accumulator_of, Takes, ReturnsTo, FirstCalls, MeetsStopAt}
+use Rattle.song_length.specs.Plays.{Takes}
+use Rattle.song_length.proofs.Laws.{never_both, fails_once}
+use Rattle.jobs.specs.Calls.{entry_of, accumulator_of, ReturnsTo, FirstCalls, MeetsStopAt}
 use Rattle.command_line.specs.RegisterText.{register_line, register_lines}
 use Rattle.jobs.specs.Lines.{stop_line}
 use Rattle.goat_io.specs.declared.fault.SinkFault.{SinkFault}
@@ -70,17 +71,7 @@ module _ {m : Machine} {entry number : ℕ} where
       ReturnsTo m entry number registers after →
       FailsBy m entry number most_steps reason after' → ⊥
   returns_or_fails {after} after' reason p fails =
-      let never : Ok 0 ≡ Err reason =
-      returned_fails m entry number p.steps most_steps after after' reason (Ok 0) p.takes.called p.takes.within fails in
-      cc (never)
-
--- a call fails for one reason
-fails_once : (m : Machine) (entry number : ℕ) (after after' : Machine) (reason reason' : CallStop) →
-    FailsBy m entry number most_steps reason after → FailsBy m entry number most_steps reason' after' → reason ≡ reason'
-fails_once m entry number after after' (Stopped stop) reason' p q =
-    stopped_fails m entry number most_steps p.0 stop after after' reason' p.2 p.1 q
-fails_once m entry number after after' Budget reason' p q =
-    under_way_fails m entry number most_steps after after' reason' p q
+      never_both m entry number p.steps after after' reason p.takes fails
 
 -- ---- the first calls
 

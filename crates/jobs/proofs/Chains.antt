@@ -1,6 +1,6 @@
 -- How a run goes through the stages of its job: each one is met, or ends it; and how the commands end after the last.
-use Rattle.std.proofs.Common.{◌≡◌, ℕ, ◌+◌, ◌-◌, ◌≤◌, List, [], ◌∷◌, ◌++◌, Option, Some}
-use Rattle.std.proofs.Common.{None, Ok, true, length, refl, sym, ap, ◌∙◌, subst}
+use Rattle.std.proofs.Common.{◌≡◌, ℕ, ◌-◌, List, [], ◌∷◌, ◌++◌, Option, Some}
+use Rattle.std.proofs.Common.{None, Ok, true, refl, sym, ap, ◌∙◌, subst}
 use Rattle.std.proofs.lemmas.List.{append-nil, append_assoc}
 use Rattle.goat_io.specs.Files.{Files, IsWrittenInPart}
 use Rattle.song_model.specs.declared.songs.Song.{Song}
@@ -21,13 +21,15 @@ use Rattle.command_line.specs.Last.{Last, Says}
 use Rattle.jobs.specs.Stages.{Stage, IsThere, Fits, SpellsSong, CallsReturn, HoldsSong, HoldsPsid, HoldsListing}
 use Rattle.jobs.specs.Stages.{status_of, IsMet, Passes, AllPass, FirstEnds, input_limit}
 use Rattle.command_line.specs.Forms.{WordsOf}
-use Rattle.jobs.specs.Jobs.{stages, Shows, Done}
+use Rattle.jobs.specs.Jobs.{stages, Shows, Prints, Awaits, Done}
 use Rattle.jobs.specs.Outcome as outcome
 use Rattle.jobs.specs.Outcome.{told_after}
 use Rattle.jobs.specs.Stands as stands
-use Rattle.jobs.specs.Stands.{FolderState, SinkState, AreFiles, Account, Counted, FolderStays, IsPrinting, Printing}
+use Rattle.jobs.specs.Stands.{FolderState, SinkState, AreFiles, Account, Counted, FolderStays, ComesTo, IsPrinting}
+use Rattle.jobs.specs.Stands.{IsAwaiting, Printing}
 use Rattle.jobs.specs.Endings as ends
-use Rattle.jobs.specs.Endings.{Refuses, WasRead, SongWasRead, SongFails, WriteEnds, LinesEnd, CallsEnd, IsOver, JobEnds}
+use Rattle.jobs.specs.Endings.{Refuses, WasRead, SongWasRead, SongFails, WriteEnds, LinesEnd, StageEnds, CallsEnd, IsOver}
+use Rattle.jobs.specs.Endings.{JobEnds}
 use Rattle.jobs.proofs.Told.{some_files, as_before, is_uncounted, uncounted, counted_on, stays_itself, stays_on}
 use Rattle.jobs.proofs.Passes.{met_passes}
 use Rattle.jobs.proofs.Ends.{first_ends, says_ends, has_last, wants_first, read_ends}
@@ -198,76 +200,86 @@ module _ {job : Job} {folder after : FolderState} {name : List ℕ} {rest : List
   song_fails sink are (ends.unread fails) = read_ends sink _ are fails
   song_fails sink are (ends.unspelled bytes was refuses) = refused sink (begun are was) refl refuses
 
--- ---- the calls of `run`
+-- ---- a last stage that prints lines
 
-module _ {input : List ℕ} {subtune frames : ℕ} {files : Files} {folder after : FolderState} {psid : Psid}
-    (at : At (Run input subtune frames) files folder after (CallsReturn input subtune frames ∷ []))
-    (holds : HoldsPsid files input psid) where
-  -- the first calls, which have returned
-  printing : {calls : ℕ} (registers : List (List ℕ)) (machine : Machine) → calls ≤ frames + 1 →
-      FirstCalls (loaded psid) (subtune - 1) calls registers machine → {lines : List (List ℕ)} →
-      lines ≡ register_lines registers →
-      (words : List (List ℕ)) → WordsOf words (Run input subtune frames) → IsPrinting words files lines
-  printing {calls} registers machine within first {lines} are words form = record {
-    stage = CallsReturn input subtune frames;
-    comes = record {
-      job = Run input subtune frames;
-      form = form;
-      earlier = at.met;
-      later = [];
-      stages_are = at.stages_are;
-      pass = at.pass;
-    };
-    prints = (
-      psid,
-      holds,
-      calls,
-      within,
-      record { registers = registers; after = machine; returned = first; lines_are = are },
-    );
-  }
+module _ {job : Job} {files : Files} {folder after : FolderState} {stage : Stage}
+    (at : At job files folder after (stage ∷ [])) where
+  comes_here : (words : List (List ℕ)) → WordsOf words job → ComesTo words files stage
+  comes_here words form =
+      record { job = job; form = form; earlier = at.met; later = []; stages_are = at.stages_are; pass = at.pass }
 
-  pub calls_over : {last : Last} {s t : SinkState} → CallsEnd (loaded psid) (subtune - 1) frames last s t →
-      JobEnds (Run input subtune frames) last folder after s t
-  calls_over (ends.played registers machine first is shown) =
-      let pass = all_met (met_next at (psid, holds, registers, machine, first)) in
-      let shows : Shows psid subtune (frames + 1) (register_lines registers) =
-      record { registers = registers; after = machine; returned = first; lines_are = refl } in
+  is_printing : {lines : List (List ℕ)} → Prints files stage lines → (words : List (List ℕ)) → WordsOf words job →
+      IsPrinting words files lines
+  is_printing prints words form = record { stage = stage; comes = comes_here words form; prints = prints }
+
+  is_awaiting : {lines : List (List ℕ)} → Awaits files stage lines → (words : List (List ℕ)) → WordsOf words job →
+      IsAwaiting words files lines
+  is_awaiting awaits words form = record { stage = stage; comes = comes_here words form; awaits = awaits }
+
+  pub stage_over : {last : Last} {s t : SinkState} → is_uncounted (status_of stage) ≡ true →
+      StageEnds job files stage last s t → JobEnds job last folder after s t
+  stage_over free (ends.met lines met did is shown) =
+      let pass = all_met (met_next at met) in
       rw is (over_with at (λ words form. record {
-        lines = register_lines registers;
-        account =
-            stands.outcome None (outcome.done (Run input subtune frames) form pass ((psid, holds, shows), refl) refl)
-            (at.stays.told ∙ as_before folder.told);
+        lines = lines;
+        account = stands.outcome None (outcome.done job form pass did refl) (at.stays.told ∙ as_before folder.told);
         counted = at.stays.counts;
         appends = shown;
       }))
-  calls_over (ends.stopped call registers reason within meets is shown) =
-      let lines = register_lines registers ++ stop_line reason call ∷ [] in
-      let stop : StopsIn psid subtune frames =
-      record { call = call; within = within; registers = registers; reason = reason; meets = meets } in
-      let first = subst (λ list. FirstEnds files list 13 lines) (sym at.stages_are)
-      (first_ends files at.met [] (CallsReturn input subtune frames) lines at.pass (psid, holds, stop, refl)) in
-      rw is (over_with at (λ words form. record {
-        earlier = register_lines registers;
-        account =
-            stands.outcome None (outcome.ended (Run input subtune frames) form first refl)
-            (at.stays.told ∙ as_before folder.told);
-        counted = uncounted refl at.stays.counts;
+  stage_over free (ends.ended earlier line is says shown) =
+      let lines = earlier ++ line ∷ [] in
+      let first = subst (λ list. FirstEnds files list (status_of stage) lines) (sym at.stages_are)
+      (first_ends files at.met [] stage lines at.pass is) in
+      rw says (over_with at (λ words form. record {
+        earlier = earlier;
+        account = stands.outcome None (outcome.ended job form first refl) (at.stays.told ∙ as_before folder.told);
+        counted = uncounted free at.stays.counts;
         appends = shown;
       }))
-  calls_over (ends.failed calls kept earlier line registers machine within first lines_are is fails) =
+  stage_over free (ends.failed earlier line kept prints is fails) =
       rw is (over_with at (λ words form. record {
         earlier = earlier;
         later = [];
         line = line;
         kept = kept;
-        printing =
-            stands.of_stage (printing registers machine within first (sym lines_are) words form) at.stays;
+        printing = stands.of_stage (is_printing prints words form) at.stays;
         fails = fails;
       }))
-  calls_over (ends.wanting calls earlier line registers machine within first lines_are is appends) =
+  stage_over free (ends.wanting earlier line prints is appends) =
       rw is
       (over_with at
-      (λ words form.
-      ends.for_line earlier [] line
-      (stands.of_stage (printing registers machine within first (sym lines_are) words form) at.stays) appends))
+      (λ words form. ends.for_line earlier [] line (stands.of_stage (is_printing prints words form) at.stays) appends))
+  stage_over free (ends.wanting_next lines awaits is appends) =
+      rw is (over_with at (λ words form. ends.next lines (is_awaiting awaits words form) at.stays appends))
+
+-- ---- the calls of `run`
+
+-- the first calls, which have returned
+shows_first : {psid : Psid} {subtune calls : ℕ} (registers : List (List ℕ)) (machine : Machine) →
+    FirstCalls (loaded psid) (subtune - 1) calls registers machine → {lines : List (List ℕ)} →
+    lines ≡ register_lines registers → Shows psid subtune calls lines
+shows_first registers machine first are =
+    record { registers = registers; after = machine; returned = first; lines_are = are }
+
+module _ {input : List ℕ} {subtune frames : ℕ} {files : Files} {psid : Psid} (holds : HoldsPsid files input psid) where
+  calls_end : {last : Last} {s t : SinkState} → CallsEnd (loaded psid) (subtune - 1) frames last s t →
+      StageEnds (Run input subtune frames) files (CallsReturn input subtune frames) last s t
+  calls_end (ends.played registers machine first is shown) =
+      ends.met (register_lines registers) (psid, holds, registers, machine, first)
+      ((psid, holds, shows_first registers machine first refl), refl) is shown
+  calls_end (ends.stopped call registers reason within meets is shown) =
+      let stop : StopsIn psid subtune frames =
+      record { call = call; within = within; registers = registers; reason = reason; meets = meets } in
+      ends.ended (register_lines registers) (stop_line reason call) (psid, holds, stop, refl) is shown
+  calls_end (ends.failed calls kept earlier line registers machine within first lines_are is fails) =
+      ends.failed earlier line kept
+      (psid, holds, calls, within, shows_first registers machine first (sym lines_are)) is fails
+  calls_end (ends.wanting calls earlier line registers machine within first lines_are is appends) =
+      ends.wanting earlier line
+      (psid, holds, calls, within, shows_first registers machine first (sym lines_are)) is appends
+
+  pub calls_over : {folder after : FolderState} →
+      At (Run input subtune frames) files folder after (CallsReturn input subtune frames ∷ []) → {last : Last}
+      {s t : SinkState} → CallsEnd (loaded psid) (subtune - 1) frames last s t →
+      JobEnds (Run input subtune frames) last folder after s t
+  calls_over at ended = stage_over at refl (calls_end ended)

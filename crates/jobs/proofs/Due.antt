@@ -30,6 +30,8 @@ use Rattle.jobs.specs.Stands.{ComesTo}
 use Rattle.command_line.proofs.Laws.{one_job}
 use Rattle.jobs.specs.Costs.{TellCosts}
 use Rattle.jobs.proofs.Costs.{one_cost_text}
+use Rattle.jobs.specs.Lengths.{TellLengths}
+use Rattle.jobs.proofs.Lengths.{one_text as one_length_text}
 use Rattle.jobs.proofs.Calls.{one_list}
 use Rattle.jobs.proofs.OneProgram.{one_program, one_bound}
 use Rattle.jobs.proofs.Passes.{one_file, one_song_held, one_psid_held, stage_facts}
@@ -122,6 +124,10 @@ has_one_text files (asked.Run input subtune frames) other = λ lines others p q.
     one_list (loaded q.0) (subtune - 1) (frames + 1) p.2.registers q.2.registers p.2.after q.2.after first
     q.2.returned in
     p.2.lines_are ∙ ap register_lines calls ∙ sym q.2.lines_are
+has_one_text files (asked.Measure input calls) other = λ lines others p q.
+    let same = one_psid_held files input p.0 q.0 p.1 q.1 in
+    one_length_text q.0 calls q.0.header.songs lines others
+    (subst (λ psid. TellLengths psid calls psid.header.songs lines) same p.2) q.2
 has_one_text files (asked.Help topic) other = λ lines others p q. p ∙ sym q
 has_one_text files asked.Version other = λ lines others p q. p ∙ sym q
 has_one_text files (asked.Parts input options) other = λ lines others p q.

@@ -79,3 +79,4 @@ module _ {words : List (List ℕ)} {mine : Job} (form : WordsOf words mine) (bar
   answered (stands.cut_in_line earlier later line kept printing ten fails) = inr (inl ten)
   answered (stands.wanting earlier later line printing tells) = of_want tells
   answered (stands.wanting_first stays tells) = of_want tells
+  answered (stands.wanting_next lines printing stays tells) = of_want tells

@@ -1,14 +1,11 @@
 -- No image is longer than that of the song packed as it is.
-use Rattle.std.proofs.Common.{◌≡◌, ℕ, ◌+◌, ◌-◌, ◌*◌, ◌≤◌, List, length, refl, sym, ap, ◌∙◌, subst, arith}
-use Rattle.std.specs.List.{count_by}
-use Rattle.song_model.specs.declared.instruments.TheConstants.{MOST_INSTRUMENTS}
+use Rattle.std.proofs.Common.{◌≡◌, ℕ, ◌+◌, ◌-◌, ◌*◌, ◌≤◌, length, sym, ap, ◌∙◌, subst, arith}
 use Rattle.song_model.specs.declared.tables.TableName.TheVariants.{Speed}
 use Rattle.song_model.specs.declared.songs.Song.{Song}
 use Rattle.song_model.specs.LookUp.{playable_subtunes}
 use Rattle.play_model.specs.declared.options.Options.{Options}
 use Rattle.asked_numbers.specs.declared.range.NumberRange.{NumberRange}
 use Rattle.asked_numbers.proofs.Laws.{songs_have_one_range}
-use Rattle.packing_rules.specs.Segments.{numbers}
 use Rattle.packing_rules.specs.UsedSets.{UsedSets}
 use Rattle.packing_rules.specs.Renumbering.{speed_rows}
 use Rattle.packing_rules.specs.SongSizes.{packed_size}
@@ -19,7 +16,6 @@ use Rattle.kept_lines.specs.Asked.{Asks}
 use Rattle.image_parts.specs.CodeParts.{zero_bytes, code_length}
 use Rattle.image_parts.specs.Lengths.{slide_bytes, read_bytes, frequency_bytes, unread_bytes, unlisted_bytes, shared_bytes}
 use Rattle.song_costs.specs.Kinds.{instrument_count}
-use Rattle.jobs.specs.Packed.{IsLengthOf, IsImageLength}
 use Rattle.jobs.specs.Laws.{NoImageIsLonger}
 use Rattle.jobs.proofs.OneAsked.{one_asked}
 

@@ -29,7 +29,8 @@ use Rattle.cpu6502.specs.declared.machine.Machine.{Machine}
 use Rattle.cpu6502.specs.declared.stop.CallStop.{CallStop}
 use Rattle.cpu6502.specs.Call.{FailsBy}
 use Rattle.sid_run.specs.State.{RunnerState, most_steps, sid_registers, loaded}
-use Rattle.jobs.specs.Calls.{entry_of, accumulator_of, Takes, FirstCalls, FirstCallsTake}
+use Rattle.song_length.specs.Plays.{Takes}
+use Rattle.jobs.specs.Calls.{entry_of, accumulator_of, FirstCalls, FirstCallsTake}
 use Rattle.jobs.specs.Traces.{first_traces}
 use Rattle.jobs.specs.Selftest.{calls_sum, subtunes_sum, register_sum, selftest_calls, CallsTake, SubtunesTake, TakesSteps}
 use Rattle.command_line.specs.Words.{Selftest}

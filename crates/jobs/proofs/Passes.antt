@@ -19,6 +19,11 @@ use Rattle.jobs.specs.Lines.{song_fault_line, unplayable_line, too_large_line, i
 use Rattle.jobs.specs.Lines.{no_subtune_line, script_line, stop_line, listing_line, join_line, script_too_large_line}
 use Rattle.jobs.specs.Stages.{Stage, IsThere, Fits, SpellsSong, CanBePlayed, HasShortPatterns, HasRoomForImage}
 use Rattle.jobs.specs.Stages.{HasPlayableSubtune, CanBeEdited, IsPsid, OffersSubtune, CallsReturn, CanBeAssembled}
+use Rattle.jobs.specs.Stages.{SubtunesReturn, SubtuneReturns}
+use Rattle.song_length.specs.Told.{IsMeasured, StopsAt}
+use Rattle.song_length.proofs.Laws.{songs_are_told_once, songs_stop_once}
+use Rattle.jobs.specs.Lengths.{AreMeasured, StopsMeasuring}
+use Rattle.jobs.proofs.Lengths.{told_or_stopped, one_stop_text}
 use Rattle.jobs.specs.Stages.{GoTogether, IsAdmitted, HoldsSong, HoldsPsid, IsMet, Ends, Passes, HasShortScript, script_limit}
 use Rattle.play_model.specs.declared.options.Options.{Options}
 use Rattle.play_model.specs.Playable.{IsPlayable, IsRefusedFor}
@@ -255,6 +260,26 @@ module _ (files : Files) where
     once =
         λ lines others p q. p.3 ∙ one_stop subtune frames p.0 q.0 (one_psid_held files name p.0 q.0 p.1 q.1) p.2 q.2
         ∙ sym q.3;
+  }
+  stage_facts (SubtunesReturn name calls) = record {
+    passes = λ met lines ends.
+        let same = one_psid_held files name met.0 ends.0 met.2 ends.1 in
+        told_or_stopped ends.0 calls met.1 lines
+        (subst (λ psid. AreMeasured psid calls psid.header.songs met.1) same met.3) ends.2;
+    once = λ lines others p q.
+        let same = one_psid_held files name p.0 q.0 p.1 q.1 in
+        one_stop_text q.0 calls lines others (subst (λ psid. StopsMeasuring psid calls lines) same p.2) q.2;
+  }
+  stage_facts (SubtuneReturns name subtune calls) = record {
+    passes = λ met lines ends.
+        let same = one_psid_held files name met.0 ends.0 met.2 ends.3 in
+        let told = subst (λ psid. IsMeasured psid (subtune - 1) calls met.1) same met.3 in
+        (songs_are_told_once ends.0 (subtune - 1) calls met.1 told).returns ends.1 ends.2 ends.4;
+    once = λ lines others p q.
+        let same = one_psid_held files name p.0 q.0 p.3 q.3 in
+        let stops = subst (λ psid. StopsAt psid (subtune - 1) calls p.1 p.2) same p.4 in
+        let once = songs_stop_once q.0 (subtune - 1) calls calls p.1 q.1 p.2 q.2 stops q.4 in
+        p.5 ∙ ap (λ call. stop_line p.2 call ∷ []) once.0 ∙ ap (λ reason. stop_line reason q.1 ∷ []) once.1 ∙ sym q.5;
   }
   stage_facts (CanBeAssembled name) = record {
     passes = λ met lines ends.

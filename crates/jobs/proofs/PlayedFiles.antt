@@ -180,7 +180,7 @@ module _ (song : Song) (o : Options) (chip : Chip) (address zero_page : ℕ) (im
       record { reads = reads; after = later.after; calls = later.first }
 
 -- the packed file of a song, as a PSID file
-abbrev psid_of : (song : Song) (o : Options) (file : List ℕ) → IsPackedPsid song o file → Psid
+abbrev pub psid_of : (song : Song) (o : Options) (file : List ℕ) → IsPackedPsid song o file → Psid
 psid_of song o file is =
     record { header = song_header song is.address o is.chip; load = is.address; image = is.packed.image }
 
@@ -191,6 +191,12 @@ plays : (song : Song) (o : Options) (file : List ℕ) (subtune frames : ℕ) (is
 plays song o file subtune frames is first last =
     plays_its_song song o is.chip is.address is.zero_page is.packed.image is.keeps is.place is.packed.below
     is.packed.faithful subtune frames is.packed.bytes first last
+
+-- its bytes are read as such
+pub packed_reads : (song : Song) (o : Options) (file : List ℕ) (is : IsPackedPsid song o file) (subtune : ℕ) → 1 ≤ subtune →
+    subtune ≤ length (playable_subtunes song) → psid_read file ≡ Ok (psid_of song o file is)
+packed_reads song o file is subtune first last =
+    ap psid_read is.packed.holds ∙ (plays song o file subtune 0 is first last).reads
 
 pub written_files_are_packed : WrittenFilesArePacked
 written_files_are_packed song o address zero_page chip file keeps place is =

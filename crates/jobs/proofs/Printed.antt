@@ -47,6 +47,8 @@ module _ {words : List (List ℕ)} {files : Files} {answer : ℕ} {folder after 
   stands_then t Wants (ends.for_line earlier later line printing appends) tells =
       stands.wanting earlier later line printing (tells_then appends tells)
   stands_then t Wants (ends.first stays appends) tells = stands.wanting_first stays (tells_then appends tells)
+  stands_then t Wants (ends.next lines printing stays appends) tells =
+      stands.wanting_next lines printing stays (tells_then appends tells)
 
 pub run_stands : {words : List (List ℕ)} {answer : ℕ} {folder after : FolderState} {s t u : SinkState} (last : Last) →
     RunEnds words last folder after s t → PrintsLast last answer t u → RunStands words answer folder after s u

@@ -12,12 +12,11 @@ use Rattle.song_model.specs.LookUp.{playable_subtunes, speed_row}
 use Rattle.play_model.specs.declared.options.Options.{Options}
 use Rattle.play_model.specs.declared.unplayable.Unplayable.TheVariants.{NoSubtune}
 use Rattle.play_model.specs.Playable.{IsPlayable}
-use Rattle.packing_rules.specs.UsedSets.{UsedSets, AreUsedSets}
 use Rattle.packed_form.specs.CodeBounds.{code_bound}
 use Rattle.packing_rules.specs.Segments.{numbers}
 use Rattle.packing_rules.specs.Renumbering.{same_row, speed_rows}
 use Rattle.packing_rules.specs.SongSizes.{data_size, packed_size}
-use Rattle.packing_rules.proofs.Laws.{packed_size_is_within, first_seen_length, same_sets}
+use Rattle.packing_rules.proofs.Laws.{packed_size_is_within, first_seen_length}
 use Rattle.asked_numbers.proofs.Laws.{ranges_lie_in_the_table}
 use Rattle.image_parts.specs.CodeParts.{code_length}
 use Rattle.image_parts.specs.Lengths.{slide_bytes, shared_bytes, unread_bytes, unlisted_bytes, frequency_bytes}

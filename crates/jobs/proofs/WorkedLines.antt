@@ -25,6 +25,9 @@ lines_are_worked = record {
   bad_number = refl;
   bad_shape = refl;
   too_small = refl;
+  measured = refl;
+  unmeasured = refl;
+  measured_all = refl;
   selftest = refl;
 }
 
@@ -109,6 +112,8 @@ statuses_are_worked = record {
   no_psid = refl;
   no_subtune = refl;
   no_return = refl;
+  not_measured = refl;
+  not_drawn = refl;
   no_listing = refl;
   not_joined = refl;
   not_admitted = refl;
@@ -124,6 +129,8 @@ limits_are_worked = record {
   around = refl;
   frames = refl;
   subtune = refl;
+  measured = refl;
+  drawn = refl;
   number = refl;
   calls = refl;
 }

@@ -1,5 +1,5 @@
 -- What the answers say, in the top call's clauses.
-use Rattle.std.specs.Prelude.{◌≡◌, ◌≢◌, ℕ, ◌+◌, ◌≤◌, List, ◌∷◌, Option, Some, length, true}
+use Rattle.std.specs.Prelude.{◌≡◌, ◌≢◌, ℕ, ◌+◌, ◌-◌, ◌≤◌, List, [], ◌∷◌, Option, Some, length, true}
 use Rattle.std.specs.List.{concat}
 use Rattle.goat_io.specs.Count.{Rose}
 use Rattle.goat_io.specs.Files.{Files, file_of}
@@ -18,8 +18,14 @@ use Rattle.asm_text.specs.Printing.{listing_of}
 use Rattle.song_model.specs.Silence.{empty_song}
 use Rattle.song_script.specs.Shown.{script_of}
 use Rattle.command_line.specs.declared.chip.Chip.{Chip}
-use Rattle.command_line.specs.Words.{Job, Run, Asm, Join, Edit}
-use Rattle.jobs.specs.Stages.{AllPass, HoldsSong, input_limit, script_limit}
+use Rattle.psid.specs.declared.header.Psid.{Psid}
+use Rattle.song_length.specs.declared.measuring.Repeat.{Repeat}
+use Rattle.song_length.specs.declared.measuring.Measured.{Measured}
+use Rattle.song_length.specs.Told.{IsMeasured}
+use Rattle.song_length.specs.Laws.{GoesOnAsTold}
+use Rattle.command_line.specs.Words.{Job, Run, Asm, Join, Edit, Measure}
+use Rattle.jobs.specs.Lengths.{AreMeasured, measured_lines}
+use Rattle.jobs.specs.Stages.{AllPass, HoldsSong, HoldsPsid, input_limit, script_limit}
 use Rattle.command_line.specs.Forms.{WordsOf}
 use Rattle.jobs.specs.Jobs.{stages, Done}
 use Rattle.jobs.specs.Outcome.{Outcome, files_after}
@@ -116,6 +122,40 @@ pub record AsksToJoin (words : List (List ℕ)) (files : Files) (first second : 
 pub record HoldsJoined (files : Files) (first second : Song) (output : List ℕ) (files_now : Option Files) : Type 0 where
   pub files_are : files_now ≡ Some (files_after files (Some (output, canonical (joined first second))))
   pub whole : IsWholeJoin (joined first second) first second
+
+-- the words ask for the subtunes of a PSID file to be measured
+pub record AsksToMeasure (words : List (List ℕ)) (files : Files) (psid : Psid) (calls : ℕ) : Type 0 where
+  pub input : List ℕ
+  pub form : WordsOf words (Measure input calls)
+  pub holds : HoldsPsid files input psid
+
+-- what is told of each of some subtunes, the first of which has this number, counted from 0, holds for ever where it repeats
+abbrev pub GoOnAsTold : Psid → ℕ → List Measured → Type 0
+GoOnAsTold psid subtune [] = Unit {0}
+GoOnAsTold psid subtune (told ∷ rest) =
+    ((repeat : Repeat) → told.repeat ≡ Some repeat → GoesOnAsTold psid subtune told repeat)
+    × GoOnAsTold psid (subtune + 1) rest
+
+-- a line was printed for each subtune of a PSID file, and what it tells holds for ever
+pub record TellsForEver (psid : Psid) (calls : ℕ) (printed printed_now : Option (List ℕ)) : Type 0 where
+  pub told : List Measured
+  pub are : AreMeasured psid calls psid.header.songs told
+  pub printed_is : printed_now ≡ told_with_piece printed (concat (measured_lines calls told))
+  pub go_on : GoOnAsTold psid 0 told
+
+-- the words ask for a run of a subtune of a PSID file, counted from 1, of which is told that it repeats
+pub record RunsRepeating (words : List (List ℕ)) (files : Files) : Type 0 where
+  pub input : List ℕ
+  pub subtune : ℕ
+  pub frames : ℕ
+  pub form : WordsOf words (Run input subtune frames)
+  pub psid : Psid
+  pub holds : HoldsPsid files input psid
+  pub calls : ℕ
+  pub measured : Measured
+  pub is : IsMeasured psid (subtune - 1) calls measured
+  pub repeat : Repeat
+  pub repeats : measured.repeat ≡ Some repeat
 
 -- the words ask for a run of a packed PSID file of the song: of its subtune, counted from 1, with this number of frames
 pub record RunsPacked (words : List (List ℕ)) (files : Files) (song : Song) (options : Options)

@@ -4,10 +4,11 @@
 use Rattle.std.specs.Prelude.{◌≡◌, ℕ, zero, suc, ◌-◌, ◌≤◌, List, [], ◌∷◌, ◌++◌}
 use Rattle.cpu6502.specs.declared.machine.Machine.{Machine}
 use Rattle.cpu6502.specs.declared.stop.CallStop.{CallStop}
-use Rattle.cpu6502.specs.Call.{Called, FailsBy}
+use Rattle.cpu6502.specs.Call.{FailsBy}
 use Rattle.psid.specs.declared.header.Psid.{Psid}
 use Rattle.sid_run.specs.declared.runner.TheConstants.{MOST_STEPS}
 use Rattle.sid_run.specs.State.{RunnerState, loaded, sid_registers}
+use Rattle.song_length.specs.Plays.{Takes}
 
 -- the address at which a call begins
 abbrev pub entry_of : RunnerState → ℕ → ℕ
@@ -18,11 +19,6 @@ entry_of file (suc call) = file.play
 abbrev pub accumulator_of : ℕ → ℕ → Machine → ℕ
 accumulator_of subtune zero machine = subtune
 accumulator_of subtune (suc call) machine = machine.cpu.a
-
--- a call returns after so many steps, which are no more than a call may take
-pub record Takes (machine : Machine) (entry number steps : ℕ) (after : Machine) : Type 0 where
-  pub called : Called machine entry number steps after
-  pub within : steps ≤ MOST_STEPS
 
 -- a call returns, in a machine with these registers of the SID
 pub record ReturnsTo (machine : Machine) (entry number : ℕ) (registers : List ℕ) (after : Machine) : Type 0 where

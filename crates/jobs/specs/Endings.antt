@@ -1,5 +1,5 @@
 -- What the parts of the top call promise each other: how a stage, a job, and a run but for its last line end.
-use Rattle.std.specs.Prelude.{◌≡◌, ◌≢◌, ℕ, ◌+◌, ◌≤◌, List, [], ◌∷◌, ◌++◌, Some, length, take}
+use Rattle.std.specs.Prelude.{◌≡◌, ◌≢◌, ℕ, ◌+◌, ◌≤◌, List, [], ◌∷◌, ◌++◌, Some, None, length, take}
 use Rattle.std.specs.List.{concat}
 use Rattle.goat_io.specs.Files.{Files, file_of, told_with_file, IsAbsent, IsAbove, IsWrittenInPart}
 use Rattle.song_model.specs.declared.songs.Song.{Song}
@@ -20,10 +20,11 @@ use Rattle.player_bound.specs.Programs.{Blocks}
 use Rattle.jobs.specs.Certificates.{IsRefusedText}
 use Rattle.command_line.specs.Last.{Last, Says, SaysNothing, SinkFailed, Wants}
 use Rattle.command_line.specs.Words.{Job}
-use Rattle.jobs.specs.Stages.{Stage, SpellsSong, Ends, status_of, input_limit}
+use Rattle.jobs.specs.Stages.{Stage, SpellsSong, Ends, IsMet, status_of, input_limit}
+use Rattle.jobs.specs.Jobs.{Prints, Awaits, Done}
 use Rattle.command_line.specs.Forms.{WordsOf}
 use Rattle.jobs.specs.Stands.{FolderState, SinkState, AreFiles, Counted, FolderStays, Appends, FailsAfter, Account}
-use Rattle.jobs.specs.Stands.{Printing, TellsWant}
+use Rattle.jobs.specs.Stands.{IsAwaiting, Printing, TellsWant}
 
 -- ---- a stage
 
@@ -125,6 +126,24 @@ pub data LinesEnd (lines : List (List ℕ)) (last : Last) (before after : SinkSt
   unsaid : (earlier later : List (List ℕ)) (line : List ℕ) → lines ≡ earlier ++ line ∷ later →
       last ≡ Wants → Appends (concat earlier) before after → LinesEnd lines last before after
 
+-- ---- a stage that prints lines
+
+-- what became of a job's last stage, which prints lines before it is known whether it ends the run: it is met, and the job
+-- is done with them; or it ends the run, with one more; or a put failed; or the run was out of memory
+pub data StageEnds (job : Job) (files : Files) (stage : Stage) (last : Last) (before after : SinkState) : Type 0 where
+  met : (lines : List (List ℕ)) → IsMet files stage → Done job files lines None → last ≡ SaysNothing →
+      Appends (concat lines) before after → StageEnds job files stage last before after
+  ended : (earlier : List (List ℕ)) (line : List ℕ) → Ends files stage (earlier ++ line ∷ []) →
+      last ≡ Says (status_of stage) line → Appends (concat earlier) before after →
+      StageEnds job files stage last before after
+  failed : (earlier : List (List ℕ)) (line : List ℕ) (kept : ℕ) → Prints files stage (earlier ++ line ∷ []) →
+      last ≡ SinkFailed → FailsAfter (concat earlier ++ take kept line) before after →
+      StageEnds job files stage last before after
+  wanting : (earlier : List (List ℕ)) (line : List ℕ) → Prints files stage (earlier ++ line ∷ []) → last ≡ Wants →
+      Appends (concat earlier) before after → StageEnds job files stage last before after
+  wanting_next : (lines : List (List ℕ)) → Awaits files stage lines → last ≡ Wants → Appends (concat lines) before after →
+      StageEnds job files stage last before after
+
 -- ---- the calls of a PSID file
 
 -- what became of init and of play, as often as there are frames, of a loaded file
@@ -178,7 +197,7 @@ pub record HasFailed (words : List (List ℕ)) (files : Files) (folder folder_af
   pub printing : Printing words files (earlier ++ line ∷ later) folder folder_after
   pub fails : FailsAfter (concat earlier ++ take kept line) sink sink_after
 
--- the run was out of memory, for a line or before the first one
+-- the run was out of memory: for a line, before the first one, or before the next one of a stage was known
 pub data IsWanting (words : List (List ℕ)) (files : Files) (folder folder_after : FolderState)
     (sink sink_after : SinkState) : Type 0 where
   for_line : (earlier later : List (List ℕ)) (line : List ℕ) →
@@ -186,6 +205,8 @@ pub data IsWanting (words : List (List ℕ)) (files : Files) (folder folder_afte
       IsWanting words files folder folder_after sink sink_after
   first : FolderStays folder folder_after → Appends [] sink sink_after →
       IsWanting words files folder folder_after sink sink_after
+  next : (lines : List (List ℕ)) → IsAwaiting words files lines → FolderStays folder folder_after →
+      Appends (concat lines) sink sink_after → IsWanting words files folder folder_after sink sink_after
 
 abbrev pub IsOver : List (List ℕ) → Files → Last → FolderState → FolderState → SinkState → SinkState → Type 0
 IsOver words files (Says status line) folder folder_after sink sink_after =

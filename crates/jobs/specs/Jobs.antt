@@ -1,6 +1,6 @@
 -- What belongs to each job: the stages of its run, and what it does where all pass. It is a relation, since the player's
 -- bytes may be chosen.
-use Rattle.std.specs.Prelude.{◌≡◌, ℕ, ◌+◌, ◌-◌, ◌≤◌, List, [], ◌∷◌, ◌++◌, Option, Some, None, length}
+use Rattle.std.specs.Prelude.{◌≡◌, ℕ, ◌+◌, ◌-◌, ◌<◌, ◌≤◌, List, [], ◌∷◌, ◌++◌, Option, Some, None, length}
 use Rattle.goat_io.specs.Files.{Files}
 use Rattle.song_model.specs.declared.songs.Song.{Song}
 use Rattle.song_model.specs.Canonical.{canonical}
@@ -18,6 +18,7 @@ use Rattle.command_line.specs.Words as asked
 use Rattle.command_line.specs.Words.{Job}
 use Rattle.jobs.specs.Stages.{Stage, IsThere, Fits, SpellsSong, CanBePlayed, HasShortPatterns, HasShortScript}
 use Rattle.jobs.specs.Stages.{HasRoomForImage, HasPlayableSubtune, CanBeEdited, IsPsid, OffersSubtune, CallsReturn}
+use Rattle.jobs.specs.Stages.{SubtunesReturn, SubtuneReturns}
 use Rattle.jobs.specs.Stages.{CanBeAssembled, GoTogether, IsAdmitted, HoldsBytes, HoldsSong, HoldsPsid, HoldsListing}
 use Rattle.jobs.specs.Stages.{IsEditedIn, input_limit, script_limit, listing_limit, certificate_limit}
 use Rattle.jobs.specs.SongPrograms.{HasProgram}
@@ -32,6 +33,7 @@ use Rattle.command_line.specs.RegisterText.{register_lines}
 use Rattle.jobs.specs.Traces.{first_traces}
 use Rattle.jobs.specs.Lines.{wrote_line, check_line, selftest_line, bound_line}
 use Rattle.jobs.specs.Costs.{TellCosts}
+use Rattle.jobs.specs.Lengths.{TellLengths, IsChart}
 use Rattle.jobs.specs.Selftest.{register_sum, TakesSteps}
 use Rattle.song_script.specs.Shown.{script_of}
 use Rattle.command_line.specs.Topics.{help_lines, version_lines}
@@ -150,6 +152,18 @@ about (asked.BoundCheck input certificate options) = record {
       HoldsSong files input song × HasProgram song options b × HoldsBytes files certificate text ×
       IsAdmittedText b text bounds × (lines ≡ bound_line bounds.init bounds.play ∷ []));
 }
+-- of each subtune of a PSID file it is told how long it is, and what its dearest call costs
+about (asked.Measure input calls) = record {
+  stages = IsThere input ∷ Fits input input_limit ∷ IsPsid input ∷ SubtunesReturn input calls ∷ [];
+  does = PrintsLines (λ files lines. (psid : Psid) × HoldsPsid files input psid ×
+      TellLengths psid calls psid.header.songs lines);
+}
+-- of a subtune of a PSID file, counted from 1, a picture is written of what each of its first plays costs
+about (asked.Chart input output subtune calls) = record {
+  stages = IsThere input ∷ Fits input input_limit ∷ IsPsid input ∷ OffersSubtune input subtune ∷
+      SubtuneReturns input subtune calls ∷ [];
+  does = WritesFile output (λ files file. (psid : Psid) × HoldsPsid files input psid × IsChart psid subtune calls file);
+}
 
 abbrev pub stages : Job → List Stage
 stages job = (about job).stages
@@ -178,8 +192,20 @@ DoneBy (WritesAndPrints output holds) files lines write =
 abbrev pub Done : Job → Files → List (List ℕ) → Option (List ℕ × List ℕ) → Type 0
 Done job files lines write = DoneBy (about job).does files lines write
 
--- lines that a stage prints before it is known whether it ends the run: those of the first calls, which have returned
+-- lines that a stage prints before it is known whether it ends the run: those of the first calls, which have returned, or
+-- of the first subtunes
 abbrev pub Prints : Files → Stage → List (List ℕ) → Type 0
 Prints files (CallsReturn name subtune frames) lines =
     (psid : Psid) × HoldsPsid files name psid × (calls : ℕ) × (calls ≤ frames + 1) × Shows psid subtune calls lines
+Prints files (SubtunesReturn name calls) lines =
+    (psid : Psid) × HoldsPsid files name psid × (subtunes : ℕ) × (subtunes ≤ psid.header.songs)
+    × TellLengths psid calls subtunes lines
 Prints files _ lines = ⊥
+
+-- lines of a stage behind which the run may be out of memory before the next one is known: those of the first subtunes, but
+-- not of all
+abbrev pub Awaits : Files → Stage → List (List ℕ) → Type 0
+Awaits files (SubtunesReturn name calls) lines =
+    (psid : Psid) × HoldsPsid files name psid × (subtunes : ℕ) × (subtunes < psid.header.songs)
+    × TellLengths psid calls subtunes lines
+Awaits files _ lines = ⊥

@@ -26,7 +26,7 @@ use Rattle.sid_run.specs.State.{loaded}
 use Rattle.psid.specs.declared.header.Psid.{Psid}
 use Rattle.psid.specs.Reading.{psid_read}
 use Rattle.command_line.specs.declared.chip.Chip.{Chip}
-use Rattle.command_line.specs.Words.{Job, Pack, Selftest, Disasm, Asm, Show, Edit, Bound, BoundCheck}
+use Rattle.command_line.specs.Words.{Job, Pack, Selftest, Disasm, Asm, Show, Edit, Bound, BoundCheck, Chart}
 use Rattle.jobs.specs.Calls.{HasSubtune, FirstCalls}
 use Rattle.jobs.specs.Stages.{Stage, CanBePlayed, HasRoomForImage, HoldsSong, HoldsPsid, status_of, Ends, IsMet, Passes}
 use Rattle.jobs.specs.Stages.{AllPass, input_limit}
@@ -75,6 +75,13 @@ BoundsHaveOneOutcome =
     (files : Files) (input output : List ℕ) (options : Options) (lines others : List (List ℕ))
     (write other : Option (List ℕ × List ℕ)) → Done (Bound input output options) files lines write →
     Done (Bound input output options) files others other → (lines ≡ others) × (write ≡ other)
+
+-- and so is what `chart` prints and writes of a file
+abbrev pub ChartsHaveOneOutcome : Type 0
+ChartsHaveOneOutcome =
+    (files : Files) (input output : List ℕ) (subtune calls : ℕ) (lines others : List (List ℕ))
+    (write other : Option (List ℕ × List ℕ)) → Done (Chart input output subtune calls) files lines write →
+    Done (Chart input output subtune calls) files others other → (lines ≡ others) × (write ≡ other)
 
 -- ---- each status and its cause
 

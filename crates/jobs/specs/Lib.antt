@@ -7,6 +7,7 @@ pub mod Packed
 pub mod Certificates
 pub mod Selftest
 pub mod Costs
+pub mod Lengths
 pub mod Stages
 pub mod Jobs
 pub mod Outcome
@@ -15,6 +16,7 @@ pub mod Stands
 pub mod Answers
 -- Claimed: laws of these definitions.
 pub mod Laws
+pub mod Everywhere
 -- Claimed: the premises of the clauses can be met.
 pub mod MetPremises
 -- Worked by hand: lines, limits and headers.

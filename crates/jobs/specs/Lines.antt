@@ -1,5 +1,5 @@
 -- The lines that tell what became of a job.
-use Rattle.std.specs.Prelude.{ℕ, ◌+◌, List, [], ◌∷◌, ◌++◌, codes, decimal}
+use Rattle.std.specs.Prelude.{ℕ, ◌+◌, List, [], ◌∷◌, ◌++◌, Option, Some, None, codes, decimal}
 use Rattle.command_line.specs.Lines.{line, no_memory_line, address_digits, feature_digits, sum_digits}
 use Rattle.song_model.specs.declared.tables.TableName.{TableName}
 use Rattle.song_model.specs.declared.tables.TableName.TheVariants.{Wave, Pulse, Filter, Speed}
@@ -7,6 +7,8 @@ use Rattle.play_model.specs.declared.unplayable.Unplayable.{Unplayable}
 use Rattle.play_model.specs.declared.unplayable.Unplayable.TheVariants.{NoSubtune, MissingPattern, BadRestart}
 use Rattle.play_model.specs.declared.unplayable.Unplayable.TheVariants.{TableOverflow, PointerToJump}
 use Rattle.usage.specs.declared.parts.UsedParts.{UsedParts}
+use Rattle.song_length.specs.declared.measuring.Repeat.{Repeat}
+use Rattle.song_length.specs.declared.measuring.Measured.{Measured}
 use Rattle.usage.specs.Marks.{count_of}
 use Rattle.gts5.specs.declared.faults.SongFault.{SongFault}
 use Rattle.gts5.specs.declared.faults.SongFault.TheVariants as song
@@ -71,6 +73,20 @@ stop_text Budget = codes "no return"
 -- for a call with this number
 abbrev pub stop_line : CallStop → ℕ → List ℕ
 stop_line reason call = line (codes "machine stopped: " ∷ stop_text reason ∷ codes " in call " ∷ decimal call ∷ [])
+
+-- ---- how long a song is, and what its dearest call costs
+
+-- when the state comes again; or that it doesn't in so many plays
+abbrev pub repeat_words : ℕ → Option Repeat → List (List ℕ)
+repeat_words calls (Some repeat) =
+    codes ", repeats from " ∷ decimal repeat.from ∷ codes " after " ∷ decimal repeat.length ∷ []
+repeat_words calls None = codes ", not repeated in " ∷ decimal calls ∷ codes " calls" ∷ []
+
+-- for a subtune, counted from 1, of which this is told of so many plays
+abbrev pub measured_line : ℕ → ℕ → Measured → List ℕ
+measured_line calls subtune told =
+    line (codes "subtune " ∷ decimal subtune ∷ codes ": init " ∷ decimal told.init ∷ codes ", play at most "
+    ∷ decimal told.dearest.cycles ∷ codes " in call " ∷ decimal told.dearest.call ∷ repeat_words calls told.repeat)
 
 -- ---- songs that can be played, and others
 

@@ -22,6 +22,7 @@ use Rattle.psid.specs.declared.header.Psid.{Psid}
 use Rattle.psid.specs.declared.faults.PsidFault.{PsidFault}
 use Rattle.psid.specs.Reading.{psid_read}
 use Rattle.cpu6502.specs.declared.machine.Machine.{Machine}
+use Rattle.cpu6502.specs.declared.stop.CallStop.{CallStop}
 use Rattle.sid_run.specs.State.{loaded}
 use Rattle.asm6502.specs.Assembly.{assembled_bytes}
 use Rattle.asm_text.specs.declared.statements.Written.{Written}
@@ -29,7 +30,10 @@ use Rattle.asm_text.specs.declared.faults.TextFault.{TextFault}
 use Rattle.asm_text.specs.Lines.{IsListing}
 use Rattle.asm_text.specs.Laying.{listing_at}
 use Rattle.asm_text.specs.Faults.{fault_in, IsFaultOf}
+use Rattle.song_length.specs.declared.measuring.Measured.{Measured}
+use Rattle.song_length.specs.Told.{IsMeasured, StopsAt}
 use Rattle.jobs.specs.Calls.{HasSubtune, FirstCalls, StopsIn}
+use Rattle.jobs.specs.Lengths.{AreMeasured, StopsMeasuring}
 use Rattle.jobs.specs.Packed.{IsImageLength}
 use Rattle.player_bound.specs.declared.bounds.CallBounds.{CallBounds}
 use Rattle.player_bound.specs.Programs.{Blocks}
@@ -70,6 +74,8 @@ pub data Stage : Type 0 where
   IsPsid : (name : List ℕ) → Stage
   OffersSubtune : (name : List ℕ) (subtune : ℕ) → Stage
   CallsReturn : (name : List ℕ) (subtune frames : ℕ) → Stage
+  SubtunesReturn : (name : List ℕ) (calls : ℕ) → Stage
+  SubtuneReturns : (name : List ℕ) (subtune calls : ℕ) → Stage
   CanBeAssembled : (name : List ℕ) → Stage
   GoTogether : (name other : List ℕ) → Stage
   IsAdmitted : (name certificate : List ℕ) (options : Options) → Stage
@@ -202,6 +208,21 @@ rule_of (CallsReturn name subtune frames) = record {
   status = 13;
   ends = λ files lines. (psid : Psid) × HoldsPsid files name psid × (stop : StopsIn psid subtune frames) ×
       (lines ≡ register_lines stop.registers ++ stop_line stop.reason stop.call ∷ []);
+}
+-- each subtune is measured: init, and then each of its first plays, so many, returns
+rule_of (SubtunesReturn name calls) = record {
+  asks = λ files. (psid : Psid) × (told : List Measured) × HoldsPsid files name psid ×
+      AreMeasured psid calls psid.header.songs told;
+  status = 13;
+  ends = λ files lines. (psid : Psid) × HoldsPsid files name psid × StopsMeasuring psid calls lines;
+}
+-- the subtune, counted from 1, is
+rule_of (SubtuneReturns name subtune calls) = record {
+  asks = λ files. (psid : Psid) × (told : Measured) × HoldsPsid files name psid ×
+      IsMeasured psid (subtune - 1) calls told;
+  status = 13;
+  ends = λ files lines. (psid : Psid) × (call : ℕ) × (reason : CallStop) × HoldsPsid files name psid ×
+      StopsAt psid (subtune - 1) calls call reason × (lines ≡ stop_line reason call ∷ []);
 }
 -- it is a listing that can be assembled
 rule_of (CanBeAssembled name) = record {

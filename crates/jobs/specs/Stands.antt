@@ -9,7 +9,7 @@ use Rattle.goat_io.specs.Written.{told_with_piece}
 use Rattle.command_line.specs.Words.{Job}
 use Rattle.jobs.specs.Stages.{Stage, IsThere, AllPass}
 use Rattle.command_line.specs.Forms.{WordsOf}
-use Rattle.jobs.specs.Jobs.{stages, Prints}
+use Rattle.jobs.specs.Jobs.{stages, Prints, Awaits}
 use Rattle.jobs.specs.Outcome.{Outcome, told_after}
 use Rattle.command_line.specs.Lines.{no_memory_line}
 use Rattle.jobs.specs.Lines.{read_fault_line, write_fault_line}
@@ -93,6 +93,12 @@ pub record IsPrinting (words : List (List ℕ)) (files : Files) (lines : List (L
   pub comes : ComesTo words files stage
   pub prints : Prints files stage lines
 
+-- a run has come to a stage that has printed these lines, and not all
+pub record IsAwaiting (words : List (List ℕ)) (files : Files) (lines : List (List ℕ)) : Type 0 where
+  pub stage : Stage
+  pub comes : ComesTo words files stage
+  pub awaits : Awaits files stage lines
+
 -- the lines that a run was printing: those of what it came to, or those of a stage
 pub data Printing (words : List (List ℕ)) (files : Files) (lines : List (List ℕ))
     (before after : FolderState) : Type 0 where
@@ -111,7 +117,7 @@ pub data TellsWant (bytes : List ℕ) (answer : ℕ) (before after : SinkState) 
   untold : answer ≡ 14 → Appends bytes before after → TellsWant bytes answer before after
 
 -- all lines were appended; or the put of a line failed, and nothing more was put; or the run was out of memory for a
--- line, or before the first one
+-- line, or before the first one, or before it was known what the next one of a stage is
 pub data Stands (words : List (List ℕ)) (files : Files) (answer : ℕ) (folder folder_after : FolderState)
     (sink sink_after : SinkState) : Type 0 where
   whole : (lines : List (List ℕ)) → Account words files answer lines folder.told folder_after.told →
@@ -126,6 +132,8 @@ pub data Stands (words : List (List ℕ)) (files : Files) (answer : ℕ) (folder
       TellsWant (concat earlier) answer sink sink_after → Stands words files answer folder folder_after sink sink_after
   wanting_first : FolderStays folder folder_after → TellsWant [] answer sink sink_after →
       Stands words files answer folder folder_after sink sink_after
+  wanting_next : (lines : List (List ℕ)) → IsAwaiting words files lines → FolderStays folder folder_after →
+      TellsWant (concat lines) answer sink sink_after → Stands words files answer folder folder_after sink sink_after
 
 -- the same, where some of the folder's files stand for it
 pub record RunStands (words : List (List ℕ)) (answer : ℕ) (folder folder_after : FolderState)

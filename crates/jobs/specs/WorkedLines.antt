@@ -1,5 +1,5 @@
 -- Lines, statuses, limits and headers that are worked by hand.
-use Rattle.std.specs.Prelude.{◌≡◌, ℕ, ◌+◌, ◌-◌, ◌<◌, List, [], ◌∷◌, ◌++◌, Bool, true}
+use Rattle.std.specs.Prelude.{◌≡◌, ℕ, ◌+◌, ◌-◌, ◌<◌, List, [], ◌∷◌, ◌++◌, Option, Some, None, Bool, true}
 use Rattle.std.specs.Prelude.{false, codes, length, map, replicate, take, drop}
 use Rattle.std.specs.List.{range_with_len}
 use Rattle.song_model.specs.declared.songs.Song.{Song}
@@ -23,14 +23,17 @@ use Rattle.cpu6502.specs.declared.stop.CallStop.TheVariants.{Stopped, Budget}
 use Rattle.command_line.specs.declared.chip.Chip.{Chip}
 use Rattle.command_line.specs.declared.chip.Chip.TheVariants.{Mos6581, Mos8580}
 use Rattle.command_line.specs.Lines.{usage_line, no_memory_line}
-use Rattle.command_line.specs.Words.{frame_limit, subtune_limit, song_number_limit}
+use Rattle.command_line.specs.Words.{frame_limit, subtune_limit, song_number_limit, measure_limit, chart_limit}
 use Rattle.usage.specs.declared.parts.UsedParts.{UsedParts}
+use Rattle.song_length.specs.declared.measuring.Repeat.{Repeat}
+use Rattle.song_length.specs.declared.measuring.Measured.{Measured}
 use Rattle.faithful.specs.WorkedPlaces.{twice}
 use Rattle.jobs.specs.Lines.{missing_line, too_long_line, read_fault_line, write_fault_line, wrote_line}
 use Rattle.jobs.specs.Lines.{song_fault_line}
 use Rattle.jobs.specs.Lines.{psid_fault_line, no_subtune_line, stop_line, unplayable_line, too_large_line}
 use Rattle.jobs.specs.Lines.{image_too_large_line, script_too_large_line, check_line, script_line, listing_line}
-use Rattle.jobs.specs.Lines.{join_line, selftest_line, call_allowance, bound_line, certificate_line, fault_words}
+use Rattle.jobs.specs.Lengths.{measured_lines}
+use Rattle.jobs.specs.Lines.{measured_line, join_line, selftest_line, call_allowance, bound_line, certificate_line, fault_words}
 use Rattle.cycle_bound.specs.EntranceRules.{around_cycles}
 use Rattle.cycle_bound.specs.declared.checks.CertKind.TheVariants.{BadShape, TooSmall}
 use Rattle.song_costs.specs.declared.costs.Costs.{Costs}
@@ -44,6 +47,7 @@ use Rattle.jobs.specs.Selftest.{selftest_calls}
 use Rattle.jobs.specs.Stages.{IsThere, Fits, SpellsSong, CanBePlayed, HasShortPatterns, HasShortScript, HasRoomForImage}
 use Rattle.jobs.specs.Stages.{HasPlayableSubtune}
 use Rattle.jobs.specs.Stages.{CanBeEdited, IsPsid, OffersSubtune, CallsReturn, CanBeAssembled, GoTogether, status_of}
+use Rattle.jobs.specs.Stages.{SubtunesReturn, SubtuneReturns}
 use Rattle.jobs.specs.Stages.{IsAdmitted, input_limit, script_limit, listing_limit, certificate_limit}
 use Rattle.song_facts.specs.Facts.{no_facts}
 
@@ -67,9 +71,16 @@ used_parts = record {
   facts = no_facts;
 }
 
+-- what is told of a subtune
+abbrev pub told_of : ℕ → ℕ → ℕ → Option Repeat → Measured
+told_of init cycles call repeat =
+    record { init = init; dearest = record { cycles = cycles; call = call }; repeat = repeat }
+
 -- one line of each kind
 pub record LinesAreWorked : Type 0 where
-  pub usage : usage_line ≡ codes "usage: goat check|trace|pack|run|edit|copy|selftest|disasm|asm|join|help|version|show|parts|bound|bound-check\n"
+  pub usage : usage_line
+      ≡ codes "usage: goat check|trace|pack|run|edit|copy|selftest|disasm|asm|join|help|version|show|parts"
+      ++ codes "|bound|bound-check|measure|chart\n"
   pub missing : missing_line (codes "a.sng") ≡ codes "missing: a.sng\n"
   pub too_long : too_long_line (codes "a.sng") ≡ codes "too long: a.sng\n"
   pub read_fault : read_fault_line (codes "a.sng") ≡ codes "read fault: a.sng\n"
@@ -85,6 +96,13 @@ pub record LinesAreWorked : Type 0 where
   pub bad_number : certificate_line 3 (codes "bad number") ≡ codes "certificate line 3: bad number\n"
   pub bad_shape : certificate_line 1 (fault_words BadShape) ≡ codes "certificate line 1: bad shape\n"
   pub too_small : certificate_line 907 (fault_words TooSmall) ≡ codes "certificate line 907: too small\n"
+  pub measured : measured_line 1000000 1 (told_of 1657 1587 1253 (Some (record { from = 1165; length = 12672 })))
+      ≡ codes "subtune 1: init 1657, play at most 1587 in call 1253, repeats from 1165 after 12672\n"
+  pub unmeasured : measured_line 300 12 (told_of 1657 1587 253 None)
+      ≡ codes "subtune 12: init 1657, play at most 1587 in call 253, not repeated in 300 calls\n"
+  pub measured_all : measured_lines 9 (told_of 3 2 1 None ∷ told_of 6 5 4 None ∷ [])
+      ≡ codes "subtune 1: init 3, play at most 2 in call 1, not repeated in 9 calls\n"
+      ∷ codes "subtune 2: init 6, play at most 5 in call 4, not repeated in 9 calls\n" ∷ []
   pub selftest : selftest_line 0 8 0x00431937 817435
       ≡ codes "selftest 0: 8 subtunes, 300 frames, sum 00431937, 817435 steps\n"
 
@@ -255,6 +273,8 @@ pub record StatusesAreWorked : Type 0 where
   pub no_psid : status_of (IsPsid (codes "b.sid")) ≡ 12
   pub no_subtune : status_of (OffersSubtune (codes "b.sid") 3) ≡ 11
   pub no_return : status_of (CallsReturn (codes "b.sid") 1 300) ≡ 13
+  pub not_measured : status_of (SubtunesReturn (codes "b.sid") 300) ≡ 13
+  pub not_drawn : status_of (SubtuneReturns (codes "b.sid") 1 300) ≡ 13
   pub no_listing : status_of (CanBeAssembled (codes "b.asm")) ≡ 17
   pub not_joined : status_of (GoTogether (codes "a.sng") (codes "b.sng")) ≡ 18
   pub not_admitted : status_of (IsAdmitted (codes "a.sng") (codes "a.bound") no_options) ≡ 16
@@ -270,6 +290,8 @@ pub record LimitsAreWorked : Type 0 where
   pub around : around_cycles ≡ 11
   pub frames : frame_limit ≡ 100000
   pub subtune : subtune_limit ≡ 255
+  pub measured : measure_limit ≡ 1000000
+  pub drawn : chart_limit ≡ 100000
   pub number : song_number_limit ≡ 18446744073709551615
   pub calls : selftest_calls ≡ 301
 

@@ -7,7 +7,8 @@ ghost use Rattle.play_model.specs.Frame.{trace_with};
 ghost use Rattle.playroutine.specs.Played.{StandsAfter};
 ghost use Rattle.cpu6502.specs.Call.{FailsBy};
 ghost use Rattle.sid_run.specs.State.{most_steps};
-ghost use Rattle.jobs.specs.Calls.{entry_of, accumulator_of, Takes, ReturnsTo};
+ghost use Rattle.song_length.specs.Plays.{Takes};
+ghost use Rattle.jobs.specs.Calls.{entry_of, accumulator_of, ReturnsTo};
 
 use cpu6502::CallStop;
 use playroutine::Player;

@@ -5,6 +5,8 @@ ghost use Rattle.jobs.specs.Laws.{StatusesHaveCauses, OnlyLargeImagesAreRefused,
 ghost use Rattle.jobs.specs.Laws.{CostsAreTheImages, WrittenFilesArePacked, PackedFilesPlay, ListingsGoBack};
 ghost use Rattle.jobs.specs.Laws.{ScriptsMakeSongsAgain, JoinedFilesHoldBoth, WrittenBoundsAreAdmitted};
 ghost use Rattle.jobs.specs.Laws.{ToldBoundsAreKept, LeastTextsAreAdmitted, SongsHaveOneProgram, BoundsHaveOneOutcome};
+ghost use Rattle.jobs.specs.Laws.{ChartsHaveOneOutcome};
+ghost use Rattle.jobs.specs.Everywhere.{PackedSongsTakeAsTold};
 ghost use Rattle.jobs.specs.MetPremises.{StatusesAreOrdinary, FittingSongsArePacked, PackedFilesAreRun};
 ghost use Rattle.jobs.specs.MetPremises.{ListingsAreAssembled, ScriptsAreDone, JoinableSongsAreJoined};
 ghost use Rattle.jobs.specs.MetPremises.{SomeJobsHaveNoStage, PlayableSongsAreBounded};
@@ -13,13 +15,14 @@ ghost use Rattle.jobs.specs.WorkedLines.{JoinFaultsAreWorked, RefusalsAreWorked,
 ghost use Rattle.jobs.specs.WorkedLines.{HeadersAreWorked, FlagsAreWorked, LargeImagesAreNotPacked};
 
 /// A run has one outcome at most: one status and one name to write under, and, where nothing is written, one text. A song has
-/// one program, and what is written of its bounds, and told, is one.
+/// one program, and what is written of its bounds, and told, is one; and so is a picture.
 pub fn runs_have_one_outcome()
     ensures due { OutcomesAreDue }
     ensures status { OneStatusIsDue }
     ensures text { OneTextIsPrinted }
     ensures programs { SongsHaveOneProgram }
     ensures bounds { BoundsHaveOneOutcome }
+    ensures charts { ChartsHaveOneOutcome }
 {}
 
 /// A stage passes where what it asks for is there.
@@ -55,6 +58,12 @@ pub fn costs_are_the_images()
 pub fn packed_files_play_their_song()
     ensures written { WrittenFilesArePacked }
     ensures play { PackedFilesPlay }
+{}
+
+/// What is told of a subtune of a packed file holds of its image on any machine, whatever else is in memory: from init on each
+/// call takes the same clock cycles.
+pub fn packed_songs_take_as_told()
+    ensures { PackedSongsTakeAsTold }
 {}
 
 /// What `disasm` writes is what `asm` gives the image back of; what `show` writes of a song is what `edit` makes the song

@@ -36,7 +36,7 @@ pub use measuring::{register_sum, selftest_report, steps_of};
 pub use packed_files::{packed_file, raw_file};
 pub use packed_songs::{packed_song, short_song, too_large_image};
 pub use printing::{print, print_lines, put_message, want_memory};
-pub use psid_stages::psid_of;
+pub use psid_stages::{psid_of, subtune_of};
 pub use stages::{
     INPUT_LIMIT, parts_of, read_file, read_song, read_song_and_bytes, song_of, write_and_tell,
     write_file,

@@ -74,8 +74,8 @@ fn show_calls<K: Sink>(
     Ok(Report::Shown)
 }
 
-/// The refusal of a file of which this call did not return.
-fn stop_refusal(reason: CallStop, call: u32) -> Refusal<'static>
+/// The refusal of a file of which this call, counted from 0, did not return.
+pub fn stop_refusal(reason: CallStop, call: u32) -> Refusal<'static>
     ensures { last_of result ≡ Says 13 (stop_line reason call) }
 {
     match reason {

@@ -1,5 +1,5 @@
 use Rattle.jobs.proofs.Laws.{headline, outcome_comes, due_comes, usage_comes, packed_plays, listing_goes_back}
-use Rattle.jobs.proofs.Laws.{script_makes_song, joined_plays, fileless_comes, counts, sink_counts, files_stay}
+use Rattle.jobs.proofs.Laws.{script_makes_song, joined_plays, lengths_hold, repeating_runs, fileless_comes, counts, sink_counts, files_stay}
 use Rattle.goat_cli.proofs.top.goat.Goals as goal
 
 pub returns-clause-headline : goal.returns-clause-headline
@@ -25,6 +25,12 @@ returns-clause-shown g c = script_makes_song c.answer.ensures
 
 pub returns-clause-joined : goal.returns-clause-joined
 returns-clause-joined g c = joined_plays c.answer.ensures
+
+pub returns-clause-measured : goal.returns-clause-measured
+returns-clause-measured g c = lengths_hold c.answer.ensures
+
+pub returns-clause-returning : goal.returns-clause-returning
+returns-clause-returning g c = repeating_runs c.answer.ensures
 
 pub returns-clause-fileless : goal.returns-clause-fileless
 returns-clause-fileless g c = fileless_comes c.answer.ensures

@@ -1,5 +1,6 @@
 use Rattle.std.proofs.Common.{◌+◌, refl, sym, ◌∙◌, subst, arith}
-use Rattle.jobs.specs.Calls.{entry_of, accumulator_of, Takes}
+use Rattle.song_length.specs.Plays.{Takes}
+use Rattle.jobs.specs.Calls.{entry_of, accumulator_of}
 use Rattle.jobs.proofs.Measured.{none_fails, call_taken, none_taken, few_taken, all_taken}
 use Rattle.jobs.proofs.measuring.count_steps.Goals as goal
 

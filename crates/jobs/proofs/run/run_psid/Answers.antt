@@ -34,4 +34,4 @@ returns g c =
     let holds = psid_held was (rw c.deref.ensures.value at c.in_ok-psid.ensures.reads) in
     let calls = rw (c.in-Ok.ensures, c.in_ok-number.ensures.number) at c.show_calls.ensures in
     let at = met_next (met_next (begun refl was) (psid, holds)) (psid, holds, c.in_ok-number.ensures.has) in
-    calls_over at holds calls
+    calls_over holds at calls
