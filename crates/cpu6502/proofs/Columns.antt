@@ -196,7 +196,7 @@ stop_is_cause Adc own cpu stop e = let is = by_flag own cpu.d stop e in inr (inl
 stop_is_cause Sbc own cpu stop e = let is = by_flag own cpu.d stop e in inr (inr refl, is.0, is.1)
 stop_is_cause _ own cpu stop e = absurd (cc)
 
-effects_take : (at : ℕ → ℕ) (cpu : Cpu) (done : Effect) → at cpu.pc < 256 → effect at cpu ≡ Ok done → cycles at cpu ≢ 0
+pub effects_take : (at : ℕ → ℕ) (cpu : Cpu) (done : Effect) → at cpu.pc < 256 → effect at cpu ≡ Ok done → cycles at cpu ≢ 0
 effects_take at cpu done below e = by_row (row_of (at cpu.pc)) refl
   where
     positive : (row : Row) → row_of (at cpu.pc) ≡ Some row → row_cycles row at cpu ≢ 0

@@ -11,6 +11,7 @@ pub mod EachRow
 pub mod Inverse
 pub mod Accumulator
 pub mod Columns
+pub mod Fetch
 pub mod Sums
 -- Machines that are the same.
 mod Same

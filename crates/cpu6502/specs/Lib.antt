@@ -16,6 +16,8 @@ pub mod Stack
 pub mod Effects
 -- to believe: how many clock cycles it takes
 pub mod Cycles
+-- inner: an instruction between its look-up and its effect
+pub mod Fetch
 -- to believe: machines, their steps, their calls, and the log of a call
 pub mod Code
 pub mod Step

@@ -1,9 +1,9 @@
 //! The effect of the instruction at the program counter.
 
-ghost use Rattle.std.specs.Prelude.{◌≡◌, slice_index};
+ghost use Rattle.std.specs.Prelude.{◌≡◌, Some, slice_index};
+ghost use Rattle.cpu6502.specs.Fetch.{fetched};
 ghost use Rattle.cpu6502.specs.Effects.{effect_of, done_by, effect, data_effect, other_effect, stop_of, moved};
 
-use crate::address::operand_place;
 use crate::arithmetic::arithmetic;
 use crate::branch::branch;
 use crate::compare::compare;
@@ -11,12 +11,12 @@ use crate::count::count;
 use crate::cpu::Cpu;
 use crate::effect::Effect;
 use crate::flags::flag;
+use crate::instruction::{Instruction, fetched};
 use crate::jump::jump;
 use crate::load::load;
 use crate::logic::logic;
 use crate::memory::Memory;
 use crate::mnemonic::Mnemonic;
-use crate::opcodes::meaning;
 use crate::shift::{shift, shift_accumulator};
 use crate::stack::on_stack;
 use crate::stop::Stop;
@@ -30,17 +30,25 @@ use crate::transfer::transfer;
 pub fn next_effect(memory: &Memory, cpu: Cpu) -> Result<Effect, Stop>
     ensures { result ≡ effect (slice_index memory.now) cpu }
 {
-    match meaning(memory.read(cpu.pc)) {
-        None => Err(Stop::Illegal { at: cpu.pc }),
-        Some((mnemonic, mode)) => {
-            let next = after(cpu, mode.length());
-            if mode.is_accumulator() {
-                Ok(shift_accumulator(mnemonic, next))
-            } else {
-                let place = operand_place(mode, memory, cpu);
-                execute(mnemonic, cpu.pc, place, memory, next)
-            }
-        }
+    let instruction = fetched(memory, cpu)?;
+    effect(instruction, memory, cpu)
+}
+
+/// What this instruction does, which is the one at the program counter.
+///
+/// # Errors
+///
+/// It is BRK, or it is ADC or SBC with the decimal flag set.
+pub fn effect(instruction: Instruction, memory: &Memory, cpu: Cpu) -> Result<Effect, Stop>
+    requires { fetched (slice_index memory.now) cpu ≡ Some instruction }
+    ensures { result ≡ effect (slice_index memory.now) cpu }
+{
+    let row = instruction.row;
+    let next = after(cpu, row.mode.length());
+    if row.mode.is_accumulator() {
+        Ok(shift_accumulator(row.mnemonic, next))
+    } else {
+        execute(row.mnemonic, cpu.pc, instruction.place, memory, next)
     }
 }
 

@@ -20,6 +20,7 @@ mod cycles;
 mod effect;
 mod execute;
 mod flags;
+mod instruction;
 mod jump;
 mod load;
 mod log;

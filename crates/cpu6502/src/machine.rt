@@ -8,9 +8,10 @@ ghost use Rattle.cpu6502.specs.declared.log.SidWrite.{SidWrite};
 ghost use Rattle.cpu6502.specs.Log.{log_of, sid_writes};
 
 use crate::cpu::Cpu;
-use crate::cycles::next_cycles;
+use crate::cycles::{cycles, next_cycles};
 use crate::effect::Effect;
-use crate::execute::next_effect;
+use crate::execute::{effect, next_effect};
+use crate::instruction::fetched;
 use crate::log::WriteLog;
 use crate::memory::Memory;
 use crate::stack::stack;
@@ -103,9 +104,9 @@ impl Machine {
             if steps == budget {
                 return Err(CallStop::Budget);
             }
-            cycles += u64::from(self.cycles());
-            if let Err(stop) = self.step_noted(log) {
-                return Err(CallStop::Stopped(stop));
+            match self.step_noted(log) {
+                Ok(taken) => cycles += u64::from(taken),
+                Err(stop) => return Err(CallStop::Stopped(stop)),
             }
             steps += 1;
         }
@@ -146,22 +147,25 @@ impl Machine {
         self.cpu.pc == 0 && self.cpu.sp == home
     }
 
-    /// Does the instruction at the program counter, and notes what it writes.
+    /// Does the instruction at the program counter, and notes what it writes. Answers its clock cycles.
     ///
     /// # Errors
     ///
     /// As [`Machine::step`]: the machine and the log stay as they were.
-    fn step_noted(&mut self, log: &mut WriteLog) -> Result<(), Stop>
+    fn step_noted(&mut self, log: &mut WriteLog) -> Result<u8, Stop>
         ensures done { OnOk result (step self.old ≡ Ok self.new) }
+        ensures cycles { IfOk result (λ taken. taken ≡ next_cycles self.old) }
         ensures stopped { IfErr result (λ stop. step self.old ≡ Err stop) }
         ensures same { OnErr result (self.new ≡ self.old) }
         ensures noted { (before : List SidWrite) → log.old ≡ log_of before →
             log.new ≡ log_of (before ++ sid_writes (writes_in 1 self.old)) }
     {
-        let effect = next_effect(&self.memory, self.cpu)?;
+        let instruction = fetched(&self.memory, self.cpu)?;
+        let effect = effect(instruction, &self.memory, self.cpu)?;
+        let taken = cycles(instruction, self.cpu);
         effect.writes.note_in(log);
         self.take(&effect);
-        Ok(())
+        Ok(taken)
     }
 
     /// Takes over what an instruction does.

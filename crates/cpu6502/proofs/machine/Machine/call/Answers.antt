@@ -1,9 +1,10 @@
-use Rattle.std.proofs.Common.{◌≡◌, ℕ, ◌+◌, ◌<◌, ◌≤◌, Ok, Err, ap, ◌∙◌, refl, sym, subst, arith, rules}
+use Rattle.std.proofs.Common.{◌≡◌, ℕ, ◌+◌, ◌<◌, ◌≤◌, Ok, Err, ap, ◌∙◌, refl, sym, subst, slice_index, arith, rules}
 use Rattle.std.proofs.lemmas.Bool.{false≢true}
 use Rattle.cpu6502.specs.declared.machine.Machine.{Machine}
 use Rattle.cpu6502.specs.declared.stop.Stop.{Stop}
 use Rattle.cpu6502.specs.Step.{step}
 use Rattle.cpu6502.specs.Call.{entered, run, HasReturned, IsOutFor, Called, MeetsStop, IsUnderWay, cycles_in}
+use Rattle.cpu6502.proofs.Columns.{cycles_are_few}
 use Rattle.cpu6502.proofs.Steps.{run-suc, cycles_in-suc}
 use Rattle.cpu6502.proofs.Calls.{out_longer, no_stop, returned_fails, under_way_fails, stopped_fails, log-suc, log_stopped}
 use Rattle.cpu6502.proofs.machine.Machine.call.Goals as goal
@@ -68,19 +69,20 @@ stepping-preserved c =
     let i = c.stepping.invariant in
     let here = λ (back : HasReturned c.args.self.now c.stepping.self). false≢true
     (c.stepping-test.ensures.1 (back.at_zero, back.same_stack)) in
-    let small = c.cycles.type_inv in
+    let taken = c.in-Ok.ensures.cycles in
+    let small = cycles_are_few (slice_index c.stepping.self.memory) c.stepping.self.cpu in
     let more = ap (λ n. n + c.from-cycles.result) i.cycles
     ∙ ap (λ n. cycles_in c.stepping.steps (entered c.args.self.now c.args.address c.args.a) + n)
-    (c.from-cycles.ensures ∙ c.cycles.ensures)
+    (c.from-cycles.ensures ∙ taken)
     ∙ sym (cycles_in-suc c.stepping.steps (entered c.args.self.now c.args.address c.args.a) c.stepping.self i.runs) in
     record {
       home = refl;
       within = below c.stepping.steps c.args.budget i.within c.if-steps-budget.false;
       runs = run-suc c.stepping.steps (entered c.args.self.now c.args.address c.args.a) c.stepping.self i.runs
-          ∙ c.in_default.ensures.done;
+          ∙ c.in-Ok.ensures.done;
       out = out_longer c.args.self.now c.args.address c.args.a c.stepping.steps c.stepping.self i.out i.runs here;
       cycles = more;
-      few = omega (arith, c.from-cycles.ensures, small, i.few);
+      few = omega (arith, c.from-cycles.ensures, taken, small, i.few);
       logged = c.step_noted.ensures.noted _ i.logged
           ∙ log-suc c.stepping.steps (entered c.args.self.now c.args.address c.args.a) c.stepping.self i.runs;
     }

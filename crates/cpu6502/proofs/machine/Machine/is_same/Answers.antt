@@ -1,6 +1,6 @@
-use Rattle.std.proofs.Common.{◌≡◌, Bool, true, sym, ap, ◌∙◌}
+use Rattle.std.proofs.Common.{sym, ap}
 use Rattle.cpu6502.specs.declared.machine.Machine.{Machine}
-use Rattle.cpu6502.proofs.Same.{same_cpu, cpus_are_one, same_self, machines_are_one}
+use Rattle.cpu6502.proofs.Same.{cpus_are_one, machines_are_one}
 use Rattle.cpu6502.proofs.machine.Machine.is_same.Goals as goal
 
 pub returns-then-eq : goal.returns-then-eq
