@@ -1,5 +1,6 @@
 -- How long the text of a picture is.
-use Rattle.std.proofs.Common.{◌≡◌, ℕ, zero, suc, ◌+◌, ◌-◌, ◌*◌, ◌/◌, ◌%◌, ◌<◌, ◌≤◌, ◌==◌, Bool, false, Option, Some, None, List, [], ◌∷◌}
+use Rattle.std.proofs.Common.{◌≡◌, ℕ, zero, suc, ◌+◌, ◌-◌, ◌*◌, ◌/◌, ◌%◌, ◌<◌, ◌≤◌, ◌==◌, Bool, false, Option, Some}
+use Rattle.std.proofs.Common.{None, List, [], ◌∷◌}
 use Rattle.std.proofs.Common.{◌++◌, length, max, decimal, nat_le, nat_lt, cond, lit<, lit≤, ap, ◌∙◌, arith, codes}
 use Rattle.std.specs.Fmt.{digits, digits_onto, digit_glyph}
 use Rattle.std.specs.List.{flat_map, range_with_len}
@@ -14,9 +15,11 @@ use Rattle.song_chart.specs.declared.picture.Again.{Again}
 use Rattle.song_chart.specs.Columns.{column, cycles_shown, greatest}
 use Rattle.song_chart.specs.Plot.{plot_of, height_of, edge_of, columns_to}
 use Rattle.song_chart.specs.Shapes.{text_at, line}
-use Rattle.song_chart.specs.Elements.{Piece, Words, Number, piece_text, pieces_text, Attribute, attribute_text, Element, element_text, elements_text}
+use Rattle.song_chart.specs.Elements.{Piece, Words, Number, piece_text, pieces_text, Attribute, attribute_text, Element}
+use Rattle.song_chart.specs.Elements.{element_text, elements_text}
 use Rattle.song_chart.specs.Picture.{calls_word, frame, legend, axis_names, grid_line, grid, column_path, path_over, areas}
-use Rattle.song_chart.specs.Picture.{call_numbers, anchor_at, triangle, mark_at, mark_of, dearest, turn, again_words, again_shown}
+use Rattle.song_chart.specs.Picture.{call_numbers, anchor_at, triangle, mark_at, mark_of, dearest, turn, again_words}
+use Rattle.song_chart.specs.Picture.{again_shown}
 use Rattle.song_chart.specs.Picture.{picture, svg, chart_text}
 use Rattle.song_chart.proofs.Puts.{each_last}
 use Rattle.song_chart.proofs.Quotients.{few_parts}

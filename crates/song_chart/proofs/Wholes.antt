@@ -6,7 +6,8 @@ use Rattle.song_chart.specs.declared.picture.Again.{Again}
 use Rattle.song_chart.specs.Columns.{greatest}
 use Rattle.song_chart.specs.Plot.{plot_of}
 use Rattle.song_chart.specs.Elements.{Element, element_text, elements_text}
-use Rattle.song_chart.specs.Picture.{frame, legend, axis_names, grid, areas, call_numbers, mark_of, dearest, again_shown, picture}
+use Rattle.song_chart.specs.Picture.{frame, legend, axis_names, grid, areas, call_numbers, mark_of, dearest}
+use Rattle.song_chart.specs.Picture.{again_shown, picture}
 
 -- elements behind others
 join : (a b : List Element) (before after : List ℕ) → before ≡ elements_text a → after ≡ before ++ elements_text b →

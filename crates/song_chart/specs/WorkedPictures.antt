@@ -4,7 +4,8 @@ use Rattle.song_chart.specs.declared.columns.Shown.TheVariants.{Greatest, Mean}
 use Rattle.song_chart.specs.Plot.{plot_of}
 use Rattle.song_chart.specs.Elements.{Words, Number, element_text, elements_text}
 use Rattle.song_chart.specs.Shapes.{text_at, box, line}
-use Rattle.song_chart.specs.Picture.{areas, calls_word, columns_path, path_over, call_numbers, dearest, anchor_at, mark_of, turn, again_shown}
+use Rattle.song_chart.specs.Picture.{areas, calls_word, columns_path, path_over, call_numbers, dearest, anchor_at}
+use Rattle.song_chart.specs.Picture.{mark_of, turn, again_shown}
 use Rattle.song_chart.specs.Picture.{chart_text}
 use Rattle.song_chart.specs.WorkedColumns.{five, pairs}
 

@@ -1,7 +1,9 @@
 //! Facts about the definitions, each the contract of a function that does nothing.
 
-ghost use Rattle.song_chart.specs.Laws.{ColumnsAreTheCalls, ColumnsAreFilled, ColumnsAreFew, MeansAreLow, HeightsFit, DearestIsMarked};
-ghost use Rattle.song_chart.specs.WorkedColumns.{CallsAreWorked, ColumnsAreWorked, CyclesAreWorked, ScaleIsWorked, PlacesAreWorked};
+ghost use Rattle.song_chart.specs.Laws.{ColumnsAreTheCalls, ColumnsAreFilled, ColumnsAreFew, MeansAreLow, HeightsFit};
+ghost use Rattle.song_chart.specs.Laws.{DearestIsMarked};
+ghost use Rattle.song_chart.specs.WorkedColumns.{CallsAreWorked, ColumnsAreWorked, CyclesAreWorked, ScaleIsWorked};
+ghost use Rattle.song_chart.specs.WorkedColumns.{PlacesAreWorked};
 ghost use Rattle.song_chart.specs.WorkedPictures.{ElementsAreWorked, PathsAreWorked, MarksAreWorked, TurnsAreWorked};
 ghost use Rattle.song_chart.specs.WorkedPictures.{WholePictureIsWorked};
 

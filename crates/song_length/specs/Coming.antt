@@ -15,7 +15,7 @@ use Rattle.song_length.specs.declared.measuring.Repeat.{Repeat}
 use Rattle.song_length.specs.Measured.{IsDearest, NeverRepeats, IsFirstRepeat}
 use Rattle.song_length.specs.Told.{Begins}
 
--- it has come from the machine after init so far, and the dearest of its first plays is known
+-- it has come from the machine after init by as many plays as it counts, and the dearest of its first ones is known
 pub record IsAt (first : Machine) (playing : Playing) : Type 0 where
   pub led : Lead playing.runner.play playing.counts.calls first playing.runner.machine
   pub running : playing.runner.stopped ≡ None

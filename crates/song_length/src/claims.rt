@@ -2,7 +2,8 @@
 
 ghost use Rattle.song_length.specs.Repeats.{RepeatingSongsGoOn};
 ghost use Rattle.song_length.specs.WorkedSongs.{DearestAreWorked, PlaysAreWorked, RepeatsAreWorked, ToldAreWorked};
-ghost use Rattle.song_length.specs.Laws.{FewAreTold, MeasuredSongsGoOn, PlaysCostLittle, SongsAreToldOnce, SongsCostOnce, SongsStopOnce};
+ghost use Rattle.song_length.specs.Laws.{FewAreTold, MeasuredSongsGoOn, PlaysCostLittle, SongsAreToldOnce};
+ghost use Rattle.song_length.specs.Laws.{SongsCostOnce, SongsStopOnce};
 
 /// A song whose state comes again goes on for ever as it went from there on: each play returns, and tells what the play
 /// before it by the song's length tells.

@@ -12,7 +12,7 @@ pub struct Dearest {
     pub call: u32,
 }
 
-/// The plays of a song so far, and the dearest of the first ones.
+/// How many plays of a song were made, and the dearest of the first ones.
 #[derive(Clone, Copy, Debug)]
 pub struct Counts {
     /// How many there were.
@@ -42,7 +42,7 @@ impl Counts {
     }
 }
 
-/// Whether a play with these clock cycles is dearer than the dearest so far.
+/// Whether a play with these clock cycles is dearer than the dearest of those that were made before it.
 fn is_dearer(dearest: Option<Dearest>, cycles: u64) -> bool
     ensures { result ≡ is_dearer dearest cycles }
 {
