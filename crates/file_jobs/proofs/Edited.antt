@@ -23,7 +23,7 @@ use Rattle.jobs.specs.Stands.{FolderState, SinkState}
 use Rattle.jobs.specs.Endings as ends
 use Rattle.jobs.specs.Endings.{Refuses, BothWereRead, EditFails, JobEnds}
 use Rattle.jobs.proofs.Laws.{At, met_next, refused}
-use Rattle.file_jobs.proofs.SecondFile.{BothBegun, both_begun}
+use Rattle.jobs.proofs.Laws.{BothBegun, both_begun}
 
 -- ---- how a script fails
 
@@ -68,7 +68,8 @@ module _ {input script : List ℕ} (output : List ℕ) {text : List ℕ} {folder
   pub edit_begun :
       BothBegun (Edit input script output) folder after (CanBeEdited input script ∷ []) input script song text
   edit_begun =
-      let within : input_limit ≤ script_limit = omega arith in both_begun (Edit input script output) input script script_limit [] (CanBeEdited input script ∷ []) refl
+      let within : input_limit ≤ script_limit = omega arith in
+      both_begun (Edit input script output) input script script_limit [] (CanBeEdited input script ∷ []) refl
       (λ files held. tt) both within
 
   -- it fails

@@ -16,7 +16,7 @@ use Rattle.jobs.specs.Endings as ends
 use Rattle.jobs.specs.Stands.{FolderState, SinkState}
 use Rattle.jobs.specs.Endings.{Refuses, SongWasRead, ReadFails, BothWereRead, JobEnds}
 use Rattle.jobs.proofs.Laws.{met_passes, At, met_next}
-use Rattle.file_jobs.proofs.SecondFile.{BothBegun, both_begun, second_fails}
+use Rattle.jobs.proofs.Laws.{BothBegun, both_begun, second_fails}
 
 -- two songs that can't be joined
 pub join_fails : {first second : Song} (fault : JoinFault) {last : Last} → fault ≢ NoMemory →

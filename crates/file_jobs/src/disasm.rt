@@ -7,7 +7,7 @@ ghost use Rattle.command_line.specs.Words.{Disasm};
 
 use command_line::{Refusal, Report};
 use goat_io::Folder;
-use jobs::{INPUT_LIMIT, psid_of, read_file, write_file};
+use jobs::{read_psid, write_file};
 use std::alloc::Global;
 
 /// Writes a listing of the image in a PSID file into another file.
@@ -25,8 +25,7 @@ pub fn list_psid<'a, F: Folder>(
         (folder_state (F.files folder.old) (F.counts folder.old))
         (folder_state (F.files folder.new) (F.counts folder.new)) sink sink }
 {
-    let bytes = read_file(alloc, input, INPUT_LIMIT, folder)?;
-    let psid = psid_of(alloc, &bytes)?;
+    let psid = read_psid(alloc, input, folder)?;
     let listing = asm_text::print(alloc, psid.load, psid.image.as_slice())?;
     write_file(output, listing.as_slice(), folder)
 }

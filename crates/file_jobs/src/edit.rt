@@ -10,12 +10,11 @@ ghost use Rattle.jobs.specs.Stands.{folder_state, SinkState};
 ghost use Rattle.jobs.specs.Endings.{EditFails, JobEnds};
 ghost use Rattle.command_line.specs.Words.{Edit};
 
-use crate::second_file::read_song_and_script;
 use command_line::{Piece, Refusal, Report, Status};
 use edit_history::Session;
 use edit_script::{RunFault, RunKind, ScriptFault, parse, run};
 use goat_io::Folder;
-use jobs::write_file;
+use jobs::{read_song_and_script, write_file};
 use song_model::Song;
 use std::alloc::Global;
 

@@ -15,10 +15,9 @@ ghost use Rattle.jobs.specs.Stands.{folder_state, SinkState};
 ghost use Rattle.jobs.specs.Endings.{Refuses, JobEnds};
 ghost use Rattle.command_line.specs.Words.{Join};
 
-use crate::second_file::read_other;
 use command_line::{Piece, Refusal, Report, Status};
 use goat_io::Folder;
-use jobs::{INPUT_LIMIT, parts_of, read_song_and_bytes, song_of, write_file};
+use jobs::{INPUT_LIMIT, parts_of, read_other, read_song_and_bytes, song_of, write_file};
 use song_join::{JoinFault, JoinPart, join};
 use song_model::Song;
 use std::alloc::Global;

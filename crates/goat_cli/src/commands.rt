@@ -1,5 +1,5 @@
-//! The job of a run, done by its command: a chain of stages, in a file of its own here, in `jobs`, in `file_jobs`
-//! or in `length_jobs`.
+//! The job of a run, done by its command: a chain of stages, in a file of its own here, in `jobs`, in `file_jobs`, in
+//! `cost_jobs` or in `length_jobs`.
 
 ghost use Rattle.command_line.specs.Job.{job_of};
 ghost use Rattle.command_line.specs.Last.{last_word};
@@ -76,19 +76,19 @@ pub fn perform<'a, F: Folder, K: Sink>(
         Job::Help { topic } => tell_forms(topic, out),
         Job::Version => tell_version(out),
         Job::Parts { input, options } => {
-            file_jobs::parts::tell_parts(alloc, input, options, folder, line, out)
+            cost_jobs::parts::tell_parts(alloc, input, options, folder, line, out)
         }
         Job::Show { input, output } => file_jobs::show::show_song(alloc, input, output, folder),
         Job::Bound {
             input,
             output,
             options,
-        } => file_jobs::bound::write_bound(alloc, input, output, options, folder),
+        } => cost_jobs::bound::write_bound(alloc, input, output, options, folder),
         Job::BoundCheck {
             input,
             certificate,
             options,
-        } => file_jobs::bound::check_bound(alloc, input, certificate, options, folder),
+        } => cost_jobs::bound::check_bound(alloc, input, certificate, options, folder),
         Job::Measure { input, calls } => {
             length_jobs::measure::measure_songs(alloc, input, calls, folder, line, out)
         }

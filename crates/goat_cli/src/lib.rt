@@ -4,13 +4,12 @@
 //! file; a file that is written holds an image that plays the song that was read, whatever else is in memory. Each
 //! status comes only where its cause does.
 //!
-//! What a job is, and what became of it, is said in `jobs`; the jobs that make no player are done there, in `file_jobs` and in
-//! `length_jobs`.
-//! Here a song is packed with a player of its own, a song that is made from a number is traced, packed and run, and the
-//! program tells of itself.
+//! What a job is, and what became of it, is said in `jobs`; the jobs that make no player are done there, in `file_jobs`, in
+//! `cost_jobs` and in `length_jobs`. Here a song is packed with a player of its own, a song that is made from a number is
+//! traced, packed and run, and the program tells of itself.
 //!
-//! It stands on `jobs`, `file_jobs` and `length_jobs`, on `command_line` for words and lines, on `goat_io` for folders and sinks, on
-//! `player_build` for the image of a packed song, and on `song_gen` for songs that are made from numbers.
+//! It stands on these four, on `command_line` for words and lines, on `goat_io` for folders and sinks, on `player_build`
+//! for the image of a packed song, and on `song_gen` for songs that are made from numbers.
 #![tactic(auto)]
 
 mod commands;

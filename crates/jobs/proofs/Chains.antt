@@ -1,11 +1,10 @@
 -- How a run goes through the stages of its job: each one is met, or ends it; and how the commands end after the last.
 use Rattle.std.proofs.Common.{◌≡◌, ℕ, ◌-◌, List, [], ◌∷◌, ◌++◌, Option, Some}
-use Rattle.std.proofs.Common.{None, Ok, true, refl, sym, ap, ◌∙◌, subst}
+use Rattle.std.proofs.Common.{None, true, refl, sym, ap, ◌∙◌, subst}
 use Rattle.std.proofs.lemmas.List.{append-nil, append_assoc}
 use Rattle.goat_io.specs.Files.{Files, IsWrittenInPart}
 use Rattle.song_model.specs.declared.songs.Song.{Song}
 use Rattle.psid.specs.declared.header.Psid.{Psid}
-use Rattle.psid.specs.Reading.{psid_read}
 use Rattle.sid_run.specs.State.{loaded}
 use Rattle.command_line.specs.Words.{Job, Run}
 use Rattle.cpu6502.specs.declared.machine.Machine.{Machine}
@@ -18,7 +17,7 @@ use Rattle.jobs.specs.Calls.{FirstCalls, StopsIn}
 use Rattle.command_line.specs.RegisterText.{register_lines}
 use Rattle.jobs.specs.Lines.{stop_line}
 use Rattle.command_line.specs.Last.{Last, Says}
-use Rattle.jobs.specs.Stages.{Stage, IsThere, Fits, SpellsSong, CallsReturn, HoldsSong, HoldsPsid, HoldsListing}
+use Rattle.jobs.specs.Stages.{Stage, IsThere, Fits, SpellsSong, IsPsid, CallsReturn, HoldsSong, HoldsPsid, HoldsListing}
 use Rattle.jobs.specs.Stages.{status_of, IsMet, Passes, AllPass, FirstEnds, input_limit}
 use Rattle.command_line.specs.Forms.{WordsOf}
 use Rattle.jobs.specs.Jobs.{stages, Shows, Prints, Awaits, Done}
@@ -28,7 +27,8 @@ use Rattle.jobs.specs.Stands as stands
 use Rattle.jobs.specs.Stands.{FolderState, SinkState, AreFiles, Account, Counted, FolderStays, ComesTo, IsPrinting}
 use Rattle.jobs.specs.Stands.{IsAwaiting, Printing}
 use Rattle.jobs.specs.Endings as ends
-use Rattle.jobs.specs.Endings.{Refuses, WasRead, SongWasRead, SongFails, WriteEnds, LinesEnd, StageEnds, CallsEnd, IsOver}
+use Rattle.jobs.specs.Endings.{Refuses, WasRead, SongWasRead, PsidWasRead, HoldFails, WriteEnds, LinesEnd, StageEnds}
+use Rattle.jobs.specs.Endings.{CallsEnd, IsOver}
 use Rattle.jobs.specs.Endings.{JobEnds}
 use Rattle.jobs.proofs.Told.{some_files, as_before, is_uncounted, uncounted, counted_on, stays_itself, stays_on}
 use Rattle.jobs.proofs.Passes.{met_passes}
@@ -168,9 +168,9 @@ pub song_held : {name : List ℕ} {folder after : FolderState} {song : Song} →
     (read : SongWasRead name folder after song) → HoldsSong read.was.files name song
 song_held read = record { bytes = read.bytes; found = read.was.found; spells = read.spells }
 
-pub psid_held : {name bytes : List ℕ} {limit : ℕ} {folder after : FolderState} {psid : Psid} →
-    (was : WasRead name limit folder after bytes) → psid_read bytes ≡ Ok psid → HoldsPsid was.files name psid
-psid_held {bytes = bytes} was reads = record { bytes = bytes; found = was.found; reads = reads }
+pub psid_held : {name : List ℕ} {folder after : FolderState} {psid : Psid} →
+    (read : PsidWasRead name folder after psid) → HoldsPsid read.was.files name psid
+psid_held read = record { bytes = read.bytes; found = read.was.found; reads = read.reads }
 
 pub listing_held : {name text : List ℕ} {limit : ℕ} {folder after : FolderState} {assembled : Assembled} →
     (was : WasRead name limit folder after text) → Reads text assembled →
@@ -193,12 +193,17 @@ module _ {job : Job} {folder after : FolderState} {name : List ℕ} {rest : List
       (read : SongWasRead name folder after song) → At job read.was.files folder after rest
   song_begun {song} are read = met_next (begun are read.was) (song, song_held read)
 
+  -- or with a PSID file
+  pub psid_begun : {psid : Psid} → stages job ≡ IsThere name ∷ Fits name input_limit ∷ IsPsid name ∷ rest →
+      (read : PsidWasRead name folder after psid) → At job read.was.files folder after rest
+  psid_begun {psid} are read = met_next (begun are read.was) (psid, psid_held read)
+
   -- or has not
-  pub song_fails : {last : Last} (sink : SinkState) →
-      stages job ≡ IsThere name ∷ Fits name input_limit ∷ SpellsSong name ∷ rest →
-      SongFails name folder after last → JobEnds job last folder after sink sink
-  song_fails sink are (ends.unread fails) = read_ends sink _ are fails
-  song_fails sink are (ends.unspelled bytes was refuses) = refused sink (begun are was) refl refuses
+  pub hold_fails : {stage : Stage} {last : Last} (sink : SinkState) →
+      stages job ≡ IsThere name ∷ Fits name input_limit ∷ stage ∷ rest → is_uncounted (status_of stage) ≡ true →
+      HoldFails stage name folder after last → JobEnds job last folder after sink sink
+  hold_fails sink are plain (ends.unread fails) = read_ends sink _ are fails
+  hold_fails sink are plain (ends.unheld bytes was refuses) = refused sink (begun are was) plain refuses
 
 -- ---- a last stage that prints lines
 

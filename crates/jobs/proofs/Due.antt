@@ -21,7 +21,8 @@ use Rattle.command_line.specs.RegisterText.{register_lines}
 use Rattle.jobs.specs.Traces.{first_traces}
 use Rattle.jobs.specs.Stages.{Stage, IsThere, status_of, Ends, AllPass, FirstEnds}
 use Rattle.command_line.specs.Forms.{WordsOf, IsNoForm}
-use Rattle.jobs.specs.Jobs.{Deed, PrintsLines, WritesFile, WritesAndPrints, DoneBy, output_under, about, output_of, stages, Done}
+use Rattle.jobs.specs.Jobs.{Deed, PrintsLines, WritesFile, WritesAndPrints, DoneBy, output_under, about, output_of}
+use Rattle.jobs.specs.Jobs.{stages, Done}
 use Rattle.jobs.specs.Outcome as outcome
 use Rattle.jobs.specs.Outcome.{Outcome}
 use Rattle.jobs.specs.Due as due

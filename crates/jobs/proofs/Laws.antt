@@ -6,10 +6,13 @@ pub use Rattle.jobs.proofs.Answered.{script_makes_song, joined_plays, lengths_ho
 pub use Rattle.jobs.proofs.Answered.{counts, sink_counts, files_stay}
 pub use Rattle.jobs.proofs.Printed.{run_stands, no_room}
 -- a run that has come so far in the stages of its job, and how it goes on
-pub use Rattle.jobs.proofs.Chains.{At, begun, song_begun, song_held, psid_held, listing_held, met_next, pass_more}
+pub use Rattle.jobs.proofs.Chains.{At, begun, song_begun, song_held, psid_begun, psid_held}
+pub use Rattle.jobs.proofs.Chains.{listing_held, met_next, pass_more}
 pub use Rattle.jobs.proofs.Passes.{met_passes}
+-- and one that reads a second file
+pub use Rattle.jobs.proofs.SecondFile.{BothBegun, both_begun, second_fails, both_fail}
 -- how it ends: at one of them, before the first, or done
-pub use Rattle.jobs.proofs.Chains.{song_fails, refused, done_says, written, lines_over, stage_over, fileless_over}
+pub use Rattle.jobs.proofs.Chains.{hold_fails, refused, done_says, written, lines_over, stage_over, fileless_over}
 pub use Rattle.jobs.proofs.Ends.{usage_ends, wants_first, read_ends, says_ends, has_last}
 -- lines that are known before they are printed, and those of two lists
 pub use Rattle.jobs.proofs.PrintedLines.{PrintedSoFar, none_printed, printed_on, printing_cut, all_printed, lines_then}

@@ -28,6 +28,7 @@ mod Printed
 mod PrintedLines
 mod Reading
 mod Room
+mod SecondFile
 mod Shown
 mod SmallSongs
 mod Told

@@ -24,7 +24,8 @@ use Rattle.song_length.specs.Told.{IsMeasured, StopsAt}
 use Rattle.song_length.proofs.Laws.{songs_are_told_once, songs_stop_once}
 use Rattle.jobs.specs.Lengths.{AreMeasured, StopsMeasuring}
 use Rattle.jobs.proofs.Lengths.{told_or_stopped, one_stop_text}
-use Rattle.jobs.specs.Stages.{GoTogether, IsAdmitted, HoldsSong, HoldsPsid, IsMet, Ends, Passes, HasShortScript, script_limit}
+use Rattle.jobs.specs.Stages.{GoTogether, IsAdmitted, HoldsSong, HoldsPsid, IsMet, Ends, Passes, HasShortScript}
+use Rattle.jobs.specs.Stages.{script_limit}
 use Rattle.play_model.specs.declared.options.Options.{Options}
 use Rattle.play_model.specs.Playable.{IsPlayable, IsRefusedFor}
 use Rattle.play_model.proofs.Laws.{refused_or_playable_lem}

@@ -10,7 +10,8 @@ use Rattle.goat_io.specs.Written.{told_with_piece}
 use Rattle.goat_io.proofs.Laws.{told_nothing, told_both}
 use Rattle.jobs.specs.Outcome.{told_after}
 use Rattle.jobs.specs.Stands as stands
-use Rattle.jobs.specs.Stands.{FolderState, SinkState, AreFiles, RisesWith, Counted, FolderStays, Appends, FailsAfter, TellsWant}
+use Rattle.jobs.specs.Stands.{FolderState, SinkState, AreFiles, RisesWith, Counted, FolderStays, Appends, FailsAfter}
+use Rattle.jobs.specs.Stands.{TellsWant}
 
 -- ---- folders
 

@@ -1,10 +1,12 @@
 -- What the parts of the top call promise each other: how a stage, a job, and a run but for its last line end.
-use Rattle.std.specs.Prelude.{◌≡◌, ◌≢◌, ℕ, ◌+◌, ◌≤◌, List, [], ◌∷◌, ◌++◌, Some, None, length, take}
+use Rattle.std.specs.Prelude.{◌≡◌, ◌≢◌, ℕ, ◌+◌, ◌≤◌, List, [], ◌∷◌, ◌++◌, Some, None, Ok, length, take}
 use Rattle.std.specs.List.{concat}
 use Rattle.goat_io.specs.Files.{Files, file_of, told_with_file, IsAbsent, IsAbove, IsWrittenInPart}
 use Rattle.song_model.specs.declared.songs.Song.{Song}
 use Rattle.gts5.specs.Spells.{Spells}
 use Rattle.edit_script.specs.Edited.{FailsAt}
+use Rattle.psid.specs.Reading.{psid_read}
+use Rattle.psid.specs.declared.header.Psid.{Psid}
 use Rattle.cpu6502.specs.declared.machine.Machine.{Machine}
 use Rattle.cpu6502.specs.declared.stop.CallStop.{CallStop}
 use Rattle.sid_run.specs.State.{RunnerState}
@@ -20,7 +22,7 @@ use Rattle.player_bound.specs.Programs.{Blocks}
 use Rattle.jobs.specs.Certificates.{IsRefusedText}
 use Rattle.command_line.specs.Last.{Last, Says, SaysNothing, SinkFailed, Wants}
 use Rattle.command_line.specs.Words.{Job}
-use Rattle.jobs.specs.Stages.{Stage, SpellsSong, Ends, IsMet, status_of, input_limit}
+use Rattle.jobs.specs.Stages.{Stage, SpellsSong, IsPsid, Ends, IsMet, status_of, input_limit}
 use Rattle.jobs.specs.Jobs.{Prints, Awaits, Done}
 use Rattle.command_line.specs.Forms.{WordsOf}
 use Rattle.jobs.specs.Stands.{FolderState, SinkState, AreFiles, Counted, FolderStays, Appends, FailsAfter, Account}
@@ -64,11 +66,25 @@ pub record SpellingWasRead (name : List ℕ) (before after : FolderState) (song 
   pub read : SongWasRead name before after song
   pub bytes_are : bytes ≡ read.bytes
 
--- it was not: the file was not read, or what was read spells no song
-pub data SongFails (name : List ℕ) (before after : FolderState) (last : Last) : Type 0 where
-  unread : ReadFails name input_limit before after last → SongFails name before after last
-  unspelled : (bytes : List ℕ) (was : WasRead name input_limit before after bytes) →
-      Refuses was.files (SpellsSong name) last → SongFails name before after last
+-- the PSID file in a file was read
+pub record PsidWasRead (name : List ℕ) (before after : FolderState) (psid : Psid) : Type 0 where
+  pub bytes : List ℕ
+  pub was : WasRead name input_limit before after bytes
+  pub reads : psid_read bytes ≡ Ok psid
+
+-- what a file is to hold, by a stage, was not read: the file was not read, or its bytes are refused there
+pub data HoldFails (stage : Stage) (name : List ℕ) (before after : FolderState) (last : Last) : Type 0 where
+  unread : ReadFails name input_limit before after last → HoldFails stage name before after last
+  unheld : (bytes : List ℕ) (was : WasRead name input_limit before after bytes) →
+      Refuses was.files stage last → HoldFails stage name before after last
+
+-- a song was not read
+abbrev pub SongFails : List ℕ → FolderState → FolderState → Last → Type 0
+SongFails name = HoldFails (SpellsSong name) name
+
+-- a PSID file was not read
+abbrev pub PsidFails : List ℕ → FolderState → FolderState → Last → Type 0
+PsidFails name = HoldFails (IsPsid name) name
 
 -- the song in a file was read, and the bytes of another file; a file that is both is read once
 pub data BothWereRead (name other : List ℕ) (limit : ℕ) (before after : FolderState) (song : Song)

@@ -33,7 +33,8 @@ use Rattle.jobs.specs.Lines.{song_fault_line}
 use Rattle.jobs.specs.Lines.{psid_fault_line, no_subtune_line, stop_line, unplayable_line, too_large_line}
 use Rattle.jobs.specs.Lines.{image_too_large_line, script_too_large_line, check_line, script_line, listing_line}
 use Rattle.jobs.specs.Lengths.{measured_lines}
-use Rattle.jobs.specs.Lines.{measured_line, join_line, selftest_line, call_allowance, bound_line, certificate_line, fault_words}
+use Rattle.jobs.specs.Lines.{measured_line, join_line, selftest_line, call_allowance, bound_line, certificate_line}
+use Rattle.jobs.specs.Lines.{fault_words}
 use Rattle.cycle_bound.specs.EntranceRules.{around_cycles}
 use Rattle.cycle_bound.specs.declared.checks.CertKind.TheVariants.{BadShape, TooSmall}
 use Rattle.song_costs.specs.declared.costs.Costs.{Costs}

@@ -1,7 +1,8 @@
 //! Facts about the definitions, each the contract of a function that does nothing.
 
 ghost use Rattle.jobs.specs.Laws.{OutcomesAreDue, OneStatusIsDue, OneTextIsPrinted, StagesPass, PlayableSongsPass};
-ghost use Rattle.jobs.specs.Laws.{StatusesHaveCauses, OnlyLargeImagesAreRefused, SmallSongsArePacked, ImagesAreBounded, NoImageIsLonger};
+ghost use Rattle.jobs.specs.Laws.{StatusesHaveCauses, OnlyLargeImagesAreRefused, SmallSongsArePacked, ImagesAreBounded};
+ghost use Rattle.jobs.specs.Laws.{NoImageIsLonger};
 ghost use Rattle.jobs.specs.Laws.{CostsAreTheImages, WrittenFilesArePacked, PackedFilesPlay, ListingsGoBack};
 ghost use Rattle.jobs.specs.Laws.{ScriptsMakeSongsAgain, JoinedFilesHoldBoth, WrittenBoundsAreAdmitted};
 ghost use Rattle.jobs.specs.Laws.{ToldBoundsAreKept, LeastTextsAreAdmitted, SongsHaveOneProgram, BoundsHaveOneOutcome};

@@ -6,7 +6,7 @@
 //! comes of its own cause, which songs are packed, and that a packed file that is run prints its song.
 //!
 //! The jobs that play are done here: a song is traced, and a PSID file is run. Of packing, all but the image is here. The
-//! jobs that read a file and play nothing are in `file_jobs`.
+//! jobs that read a file and play nothing are in `file_jobs`, in `cost_jobs` and in `length_jobs`.
 //!
 //! It stands on `command_line` for words and lines, on `goat_io` for folders and sinks, on `gts5` and `song_model` for
 //! the song, on `edit_history` and `edit_script` for editing it, on `song_script` for its script, on `usage` for what it
@@ -28,6 +28,7 @@ mod psid_stages;
 mod registers;
 /// `run IN SUBTUNE FRAMES`.
 pub mod run;
+mod second_file;
 mod stages;
 /// `trace IN SUBTUNE FRAMES`, or with `SKIP SPEED` behind it.
 pub mod trace;
@@ -36,7 +37,8 @@ pub use measuring::{register_sum, selftest_report, steps_of};
 pub use packed_files::{packed_file, raw_file};
 pub use packed_songs::{packed_song, short_song, too_large_image};
 pub use printing::{print, print_lines, put_message, want_memory};
-pub use psid_stages::{psid_of, subtune_of};
+pub use psid_stages::{read_psid, subtune_of};
+pub use second_file::{read_other, read_song_and_script};
 pub use stages::{
     INPUT_LIMIT, parts_of, read_file, read_song, read_song_and_bytes, song_of, write_and_tell,
     write_file,

@@ -9,19 +9,43 @@ ghost use Rattle.command_line.specs.Last.{last_of, Says};
 ghost use Rattle.jobs.specs.Calls.{HasSubtune};
 ghost use Rattle.jobs.specs.Lines.{psid_fault_line};
 ghost use Rattle.jobs.specs.Stages.{IsPsid, OffersSubtune, HoldsPsid};
-ghost use Rattle.jobs.specs.Endings.{Refuses};
+ghost use Rattle.jobs.specs.Stands.{folder_state};
+ghost use Rattle.jobs.specs.Endings.{PsidFails, PsidWasRead, Refuses};
 
-use crate::stages::no_such_subtune;
+use crate::stages::{INPUT_LIMIT, no_such_subtune, read_file};
 use command_line::{Piece, Refusal, Status};
+use goat_io::Folder;
 use psid::{Psid, PsidFault};
 use std::alloc::Global;
+
+/// The PSID file in a file.
+///
+/// # Errors
+///
+/// The file isn't read, its bytes break the format of PSID files, or out of memory.
+pub fn read_psid<'a, F: Folder>(
+    alloc: Global,
+    name: &'a str,
+    folder: &mut F,
+) -> Result<Psid, Refusal<'a>>
+    ensures read { IfOk result (PsidWasRead name.now
+        (folder_state (F.files folder.old) (F.counts folder.old))
+        (folder_state (F.files folder.new) (F.counts folder.new))) }
+    ensures fits { IfOk result (λ psid. psid.load + length psid.image ≤ ADDRESSES) }
+    ensures refused { IfErr result (λ refusal. PsidFails name.now
+        (folder_state (F.files folder.old) (F.counts folder.old))
+        (folder_state (F.files folder.new) (F.counts folder.new)) (last_of refusal)) }
+{
+    let bytes = read_file(alloc, name, INPUT_LIMIT, folder)?;
+    psid_of(alloc, &bytes)
+}
 
 /// The PSID file that the bytes of a file are.
 ///
 /// # Errors
 ///
 /// The bytes break the format of PSID files, or out of memory.
-pub fn psid_of(alloc: Global, bytes: &[u8]) -> Result<Psid, Refusal<'static>>
+fn psid_of(alloc: Global, bytes: &[u8]) -> Result<Psid, Refusal<'static>>
     ensures reads { IfOk result (λ psid. psid_read bytes.now ≡ Ok psid) }
     ensures fits { IfOk result (λ psid. psid.load + length psid.image ≤ ADDRESSES) }
     ensures refused { IfErr result (λ refusal. (files : Files) (name : List ℕ) →

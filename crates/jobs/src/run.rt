@@ -10,9 +10,8 @@ ghost use Rattle.jobs.specs.Endings.{JobEnds, CallsEnd};
 ghost use Rattle.command_line.specs.Words.{Run, frame_limit};
 
 use crate::calling::next_call;
-use crate::psid_stages::{psid_of, subtune_of};
+use crate::psid_stages::{read_psid, subtune_of};
 use crate::registers::put_registers;
-use crate::stages::{INPUT_LIMIT, read_file};
 use command_line::{Line, Piece, Refusal, Report, Status};
 use cpu6502::{CallStop, Stop};
 use goat_io::{Folder, Sink};
@@ -41,8 +40,7 @@ pub fn run_psid<'a, F: Folder, K: Sink>(
         (sink_state (K.written out.old) (K.faults out.old))
         (sink_state (K.written out.new) (K.faults out.new)) }
 {
-    let bytes = read_file(alloc, input, INPUT_LIMIT, folder)?;
-    let psid = psid_of(alloc, &bytes)?;
+    let psid = read_psid(alloc, input, folder)?;
     let number = subtune_of(&psid, subtune)?;
     let Ok(mut runner) = Runner::load(alloc, &psid) else {
         return Err(Refusal::NoMemory);

@@ -14,7 +14,7 @@ use crate::refusals::fault_refusal;
 use base::ByteList;
 use command_line::{Refusal, Report};
 use goat_io::Folder;
-use jobs::{INPUT_LIMIT, psid_of, read_file, subtune_of, write_file};
+use jobs::{read_psid, subtune_of, write_file};
 use psid::Psid;
 use song_chart::{Again, draw};
 use song_length::{Repeat, measure, play_cycles};
@@ -39,8 +39,7 @@ pub fn draw_song<'a, F: Folder>(
         (folder_state (F.files folder.old) (F.counts folder.old))
         (folder_state (F.files folder.new) (F.counts folder.new)) sink sink }
 {
-    let bytes = read_file(alloc, input, INPUT_LIMIT, folder)?;
-    let psid = psid_of(alloc, &bytes)?;
+    let psid = read_psid(alloc, input, folder)?;
     let _song = subtune_of(&psid, subtune)?;
     let picture = picture_of(alloc, &psid, subtune, calls)?;
     write_file(output, picture.as_slice(), folder)

@@ -16,7 +16,7 @@ ghost use Rattle.length_jobs.specs.Numbers.{HasFewDigits};
 use crate::refusals::fault_refusal;
 use command_line::{Line, Message, Piece, Refusal, Report, Status};
 use goat_io::{Folder, Sink};
-use jobs::{INPUT_LIMIT, psid_of, put_message, read_file};
+use jobs::{put_message, read_psid};
 use psid::Psid;
 use song_length::{Measured, Repeat, measure};
 use std::alloc::Global;
@@ -42,8 +42,7 @@ pub fn measure_songs<'a, F: Folder, K: Sink>(
         (sink_state (K.written out.old) (K.faults out.old))
         (sink_state (K.written out.new) (K.faults out.new)) }
 {
-    let bytes = read_file(alloc, input, INPUT_LIMIT, folder)?;
-    let psid = psid_of(alloc, &bytes)?;
+    let psid = read_psid(alloc, input, folder)?;
     tell_songs(alloc, &psid, calls, line, out)
 }
 

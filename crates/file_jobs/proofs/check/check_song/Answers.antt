@@ -1,12 +1,12 @@
 use Rattle.std.proofs.Common.{None, refl}
 use Rattle.std.proofs.lemmas.Result.{err_from_is_err_and}
-use Rattle.jobs.proofs.Laws.{as_before, still, song_begun, song_fails, song_held, met_next, refused, done_says}
+use Rattle.jobs.proofs.Laws.{as_before, still, song_begun, hold_fails, song_held, met_next, refused, done_says}
 use Rattle.file_jobs.proofs.check.check_song.Goals as goal
 
 pub returns-in_err-song : goal.returns-in_err-song
 returns-in_err-song g c =
     let p = err_from_is_err_and c.from_residual.result c.from_residual.ensures.1 in
-    rw (p.1, p.2) (λ sink. song_fails sink refl c.in_err-song.ensures.refused)
+    rw (p.1, p.2) (λ sink. hold_fails sink refl refl c.in_err-song.ensures.refused)
 
 pub returns-in_err-parts : goal.returns-in_err-parts
 returns-in_err-parts g c =

@@ -4,14 +4,15 @@ use Rattle.song_model.specs.Canonical.{canonical}
 use Rattle.command_line.specs.Words.{Edit}
 use Rattle.jobs.specs.Stages.{CanBeEdited, script_limit}
 use Rattle.jobs.proofs.Laws.{wants_first, written}
-use Rattle.file_jobs.proofs.SecondFile.{both_fail}
+use Rattle.jobs.proofs.Laws.{both_fail}
 use Rattle.file_jobs.proofs.Edited.{edit_begun, edit_fails, edited_in, all_edited}
 use Rattle.file_jobs.proofs.edit.edit_song.Goals as goal
 
 pub returns-in_err-song : goal.returns-in_err-song
 returns-in_err-song g c =
     let p = err_from_is_err_and c.from_residual.result c.from_residual.ensures.1 in
-    rw (p.1, p.2) (λ sink. both_fail (Edit c.args.input.now c.args.script.now c.args.output.now) c.args.input.now c.args.script.now script_limit [] (CanBeEdited c.args.input.now c.args.script.now ∷ []) refl
+    rw (p.1, p.2) (λ sink. both_fail (Edit c.args.input.now c.args.script.now c.args.output.now) c.args.input.now
+    c.args.script.now script_limit [] (CanBeEdited c.args.input.now c.args.script.now ∷ []) refl
     (λ files song held. tt) sink c.in_err-song.ensures.refused)
 
 pub returns-in_err-edited : goal.returns-in_err-edited

@@ -3,14 +3,14 @@ use Rattle.std.proofs.lemmas.Result.{err_from_is_err_and}
 use Rattle.song_model.specs.Canonical.{canonical}
 use Rattle.song_join.specs.Joined.{joined}
 use Rattle.jobs.specs.Stages.{input_limit}
-use Rattle.jobs.proofs.Laws.{wants_first, song_begun, song_fails, song_held, met_next, refused, written}
+use Rattle.jobs.proofs.Laws.{wants_first, song_begun, hold_fails, song_held, met_next, refused, written}
 use Rattle.file_jobs.proofs.Joining.{both_fit, other_fails, join_begun, other_held, other_begun, both_play}
 use Rattle.file_jobs.proofs.join.join_songs.Goals as goal
 
 pub returns-in_err-song : goal.returns-in_err-song
 returns-in_err-song g c =
     let p = err_from_is_err_and c.from_residual.result c.from_residual.ensures.1 in
-    rw (p.1, p.2) (λ sink. song_fails sink refl c.in_err-song.ensures.refused)
+    rw (p.1, p.2) (λ sink. hold_fails sink refl refl c.in_err-song.ensures.refused)
 
 pub returns-in_err-_parts : goal.returns-in_err-_parts
 returns-in_err-_parts g c =

@@ -1,5 +1,6 @@
 use Rattle.jobs.proofs.Laws.{headline, outcome_comes, due_comes, usage_comes, packed_plays, listing_goes_back}
-use Rattle.jobs.proofs.Laws.{script_makes_song, joined_plays, lengths_hold, repeating_runs, fileless_comes, counts, sink_counts, files_stay}
+use Rattle.jobs.proofs.Laws.{script_makes_song, joined_plays, lengths_hold, repeating_runs, fileless_comes, counts}
+use Rattle.jobs.proofs.Laws.{sink_counts, files_stay}
 use Rattle.goat_cli.proofs.top.goat.Goals as goal
 
 pub returns-clause-headline : goal.returns-clause-headline

@@ -2,7 +2,8 @@ use Rattle.std.proofs.Common.{Err, rules, ap, add-one, arith}
 use Rattle.std.proofs.lemmas.Result.{err_from_is_err_and}
 use Rattle.jobs.proofs.Calls.{so_far_on, stop_met, line_over, all_played, none_yet}
 use Rattle.jobs.proofs.run.show_calls.Goals as goal
-use Rattle.jobs.proofs.run.show_calls.Goals.{else-loop-call-test, then-loop-call-test+in-Ok+in_ok-put_registers+else-call-frames}
+use Rattle.jobs.proofs.run.show_calls.Goals.{else-loop-call-test}
+use Rattle.jobs.proofs.run.show_calls.Goals.{then-loop-call-test+in-Ok+in_ok-put_registers+else-call-frames}
 
 pub loop-call-init : goal.loop-call-init
 loop-call-init g c = none_yet c.args.runner.now c.args.number _ c.requires.running

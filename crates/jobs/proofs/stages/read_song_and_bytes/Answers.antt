@@ -14,7 +14,7 @@ returns-in_err-song-clause-refused g c =
     let p = err_from_is_err_and c.from_residual-in_err-song.result c.from_residual-in_err-song.ensures.1 in
     let found = was.found ∙ ap Some (sym c.deref.ensures.value) in
     rw (p.1, p.2)
-    (ends.unspelled _ was (c.in_err-song.ensures.refused was.files c.args.name.now found))
+    (ends.unheld _ was (c.in_err-song.ensures.refused was.files c.args.name.now found))
 
 pub returns-clause-read : goal.returns-clause-read
 returns-clause-read g c =

@@ -2,7 +2,8 @@ use Rattle.std.proofs.Common.{◌≤◌, ◌+◌, Err, rules, ap, add-one, arith
 use Rattle.std.proofs.lemmas.Result.{err_from_is_err_and}
 use Rattle.jobs.proofs.Traced.{none_traced, traced_on, trace_cut, all_traced}
 use Rattle.jobs.proofs.trace.show_frames.Goals as goal
-use Rattle.jobs.proofs.trace.show_frames.Goals.{else-loop-call-test, then-loop-call-test+in_ok-put_registers+else-call-frames}
+use Rattle.jobs.proofs.trace.show_frames.Goals.{else-loop-call-test}
+use Rattle.jobs.proofs.trace.show_frames.Goals.{then-loop-call-test+in_ok-put_registers+else-call-frames}
 
 pub loop-call-init : goal.loop-call-init
 loop-call-init g c = λ song k o stands. none_traced _ stands

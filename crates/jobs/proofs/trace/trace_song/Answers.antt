@@ -1,13 +1,13 @@
 use Rattle.std.proofs.Common.{refl}
 use Rattle.std.proofs.lemmas.Result.{err_from_is_err_and}
 use Rattle.playroutine.proofs.Laws.{start_after}
-use Rattle.jobs.proofs.Chains.{song_begun, song_fails, song_held, met_next, refused, lines_over}
+use Rattle.jobs.proofs.Chains.{song_begun, hold_fails, song_held, met_next, refused, lines_over}
 use Rattle.jobs.proofs.trace.trace_song.Goals as goal
 
 pub returns-in_err-song : goal.returns-in_err-song
 returns-in_err-song g c =
     let p = err_from_is_err_and c.from_residual.result c.from_residual.ensures.1 in
-    rw (p.1, p.2) (song_fails _ refl c.in_err-song.ensures.refused)
+    rw (p.1, p.2) (hold_fails _ refl refl c.in_err-song.ensures.refused)
 
 pub returns-in_err-_parts : goal.returns-in_err-_parts
 returns-in_err-_parts g c =
