@@ -9,13 +9,15 @@ return, it must stop in the same one. The registers must be those of this machin
 around, as `goat run` prints them, and `goat trace` for a song; so they come again as the line says.
 
 SONG is a GoatTracker 2 song, and X.sid any PSID file, which needn't be packed by goat. Without either the songs of demo/
-are taken that can be played. For each it prints what `measure` does, and the seconds that it takes; and at the end how many
-times longer that is than `run` takes for the frames that are compared. The status is 1 where something differs. This
-machine plays some 3000 frames a second: N limits what it does.
+are taken that can be played. For each it prints what `measure` does, and the seconds of processor time that it takes; and at
+the end how many times longer that is than `run` takes for the frames that are compared. A file whose subtunes all repeat is
+to be measured in a second for each 13,000 plays till then, of all of them, and in one second if there are fewer. The status
+is 1 where something differs, or takes longer. This machine plays some 3000 frames a second: N limits what it does.
 """
 import argparse
 import hashlib
 import os
+import resource
 import struct
 import subprocess
 import sys
@@ -26,6 +28,7 @@ from cycles import REGISTERS, demo_songs
 from machine6502 import Machine, Stopped
 
 MOST_FRAMES = 100_000
+PLAYS_A_SECOND = 13_000
 
 
 class File:
@@ -77,11 +80,17 @@ class Found:
         return (self.registers + again)[: MOST_FRAMES + 1]
 
 
+def children_seconds():
+    """The seconds of processor time of all commands that have ended."""
+    used = resource.getrusage(resource.RUSAGE_CHILDREN)
+    return used.ru_utime + used.ru_stime
+
+
 def ran(words):
-    """What a command prints, its status, and the seconds that it takes."""
-    begun = time.perf_counter()
+    """What a command prints, its status, and the seconds of processor time that it takes."""
+    begun = children_seconds()
     done = subprocess.run(words, capture_output=True, text=True)
-    return done.stdout.splitlines(), done.returncode, time.perf_counter() - begun
+    return done.stdout.splitlines(), done.returncode, children_seconds() - begun
 
 
 def packed(program, song, options, folder):
@@ -132,6 +141,10 @@ def compared(program, name, calls, song_name=None, options=()):
         os.path.basename(song_name or name), "; ".join(said), seconds, own))
     if not right:
         print("  differs: status %d; %s" % (wanted, "; ".join(lines)))
+    plays = sum(len(song.cycles) - 1 for song in songs)
+    if all(song.repeat for song in songs) and seconds > max(1, plays / PLAYS_A_SECOND):
+        right = False
+        print("  takes longer than a second for %d plays" % PLAYS_A_SECOND)
     running = 0
     # a word names 255 subtunes
     for number, song in enumerate(songs[: min(len(lines), 255)], 1):

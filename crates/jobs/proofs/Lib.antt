@@ -21,6 +21,7 @@ mod MeasuredFiles
 mod MetPremises
 mod OneAsked
 mod OneProgram
+mod PackedMeasured
 mod Bounded
 mod Passes
 mod PlayedFiles

@@ -10,6 +10,7 @@ use Rattle.sid_run.specs.State.{loaded, most_steps}
 use Rattle.song_length.specs.declared.measuring.Repeat.{Repeat}
 use Rattle.song_length.specs.declared.measuring.Measured.{Measured}
 use Rattle.song_length.specs.Plays.{Takes, PlayTakes, Lead}
+use Rattle.song_length.specs.Told.{Begins}
 use Rattle.song_length.specs.Laws.{GoesOnAsTold}
 use Rattle.song_length.proofs.Laws.{measured_songs_go_on, begins_once, one_machine, never_both}
 use Rattle.command_line.specs.Words.{Run, Measure}
@@ -65,18 +66,19 @@ all_go_on psid calls (suc subtunes) told are =
 
 -- ---- a run of a subtune that repeats
 
+-- the first call of a run is the init from which plays begin, and the others are these plays
+pub after_calls : (psid : Psid) (song cycles : ℕ) (first : Machine) → Begins psid song cycles first → (plays : ℕ)
+    (registers : List (List ℕ)) (machine : Machine) → FirstCalls (loaded psid) song (suc plays) registers machine →
+    Lead (loaded psid).play plays first machine
+after_calls psid song cycles first begins zero registers machine (earlier, before, last, loads, returns, are) =
+    let takes = subst (λ m. Takes m (loaded psid).init song returns.steps machine) loads.1 returns.takes in
+    begins_once psid song (call_cycles (loaded psid).machine (loaded psid).init song returns.steps) cycles
+    machine first (record { steps = returns.steps; takes = takes; cycles_are = refl }) begins
+after_calls psid song cycles first begins (suc plays) registers machine (earlier, before, last, calls, returns, are) =
+    (before, returns.steps, after_calls psid song cycles first begins plays earlier before calls, returns.takes)
+
 module _ (psid : Psid) (song : ℕ) (measured : Measured) (repeat : Repeat) (goes : GoesOnAsTold psid song measured repeat)
   where
-    -- the first call of a run is the init that is measured, and the others are its plays
-    after_calls : (plays : ℕ) (registers : List (List ℕ)) (machine : Machine) →
-        FirstCalls (loaded psid) song (suc plays) registers machine → Lead (loaded psid).play plays goes.first machine
-    after_calls zero registers machine (earlier, before, last, first, returns, are) =
-        let takes = subst (λ m. Takes m (loaded psid).init song returns.steps machine) first.1 returns.takes in
-        begins_once psid song (call_cycles (loaded psid).machine (loaded psid).init song returns.steps) measured.init
-        machine goes.first (record { steps = returns.steps; takes = takes; cycles_are = refl }) goes.begins
-    after_calls (suc plays) registers machine (earlier, before, last, first, returns, are) =
-        (before, returns.steps, after_calls plays earlier before first, returns.takes)
-
     pub meets_no_stop : (call : ℕ) (registers : List (List ℕ)) (reason : CallStop) →
         MeetsStopAt (loaded psid) song call registers reason → ⊥
     meets_no_stop zero registers reason meets =
@@ -84,7 +86,7 @@ module _ (psid : Psid) (song : ℕ) (measured : Measured) (repeat : Repeat) (goe
         never_both (loaded psid).machine (loaded psid).init song goes.begins.steps goes.first meets.after reason
         goes.begins.takes fails
     meets_no_stop (suc plays) registers reason meets =
-        let led = after_calls plays registers meets.before meets.calls in
+        let led = after_calls psid song measured.init goes.first goes.begins plays registers meets.before meets.calls in
         let told = goes.goes.returns plays in
         let same = one_machine (loaded psid).play plays goes.first told.1.before meets.before told.1.led led in
         let takes = subst (λ m. PlayTakes (loaded psid).play m told.0.steps told.1.after) same told.1.takes in

@@ -58,7 +58,7 @@ unfolding header_fields
 header_length header name author released = simp length-append (omega (arith, name, author, released))
 
 -- so a packed file has at most 124 and 2 bytes more than its image
-packed_is_short : (song : Song) (o : Options) (file : List ℕ) → IsPackedPsid song o file → length file ≤ input_limit
+pub packed_is_short : (song : Song) (o : Options) (file : List ℕ) → IsPackedPsid song o file → length file ≤ input_limit
 packed_is_short song o file is =
     let image = is.packed.image in
     let header = song_header song is.address o is.chip in

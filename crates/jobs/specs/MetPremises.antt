@@ -1,6 +1,7 @@
 -- What the clauses on statuses, packing and running ask for: each status but those of failing devices and of running out
--- of memory is ordinary; a small song that a file spells is asked for no more; a packed file is never too long to be run.
-use Rattle.std.specs.Prelude.{◌≡◌, ◌≢◌, ℕ, ◌+◌, ◌≤◌, Bool, List, [], Some, length}
+-- of memory is ordinary; a small song that a file spells is asked for no more; a packed file is never too long to be run, and
+-- no call of it stops what measures it.
+use Rattle.std.specs.Prelude.{◌≡◌, ◌≢◌, ◌↔◌, ℕ, ◌+◌, ◌-◌, ◌<◌, ◌≤◌, Bool, List, [], ◌∷◌, ◌++◌, Option, Some, length}
 use Rattle.goat_io.specs.Files.{Files, file_of}
 use Rattle.song_model.specs.declared.songs.Song.{Song}
 use Rattle.song_model.specs.LookUp.{playable_subtunes}
@@ -13,6 +14,18 @@ use Rattle.packing_rules.specs.SongSizes.{data_size}
 use Rattle.song_pack.specs.Answers.{AreShort}
 use Rattle.base.specs.Bytes.{AreBytes, IsWord}
 use Rattle.cpu6502.specs.declared.memory.TheConstants.{MEMORY_SIZE}
+use Rattle.cpu6502.specs.declared.machine.Machine.{Machine}
+use Rattle.cpu6502.specs.Call.{Called, call_cycles}
+use Rattle.cpu6502.specs.Code.{IsMachine}
+use Rattle.psid.specs.declared.header.Psid.{Psid}
+use Rattle.sid_run.specs.State.{loaded}
+use Rattle.song_length.specs.declared.measuring.Repeat.{Repeat}
+use Rattle.song_length.specs.declared.measuring.Measured.{Measured}
+use Rattle.song_length.specs.Plays.{Lead}
+use Rattle.song_length.specs.Told.{IsMeasured}
+use Rattle.song_length.specs.Laws.{GoesOnAsTold}
+use Rattle.faithful.specs.Faithful.{AgreesOn}
+use Rattle.faithful.specs.Histories.{LeadTo}
 use Rattle.song_join.specs.Refusals.{CanBeJoined}
 use Rattle.asm_text.specs.Printing.{listing_of}
 use Rattle.song_model.specs.Limits.{KeepsLimits}
@@ -21,11 +34,13 @@ use Rattle.song_script.specs.Shown.{script_of}
 use Rattle.command_line.specs.declared.chip.Chip.{Chip}
 use Rattle.command_line.specs.declared.topics.Topic.{Topic}
 use Rattle.command_line.specs.Words.{Pack, Run, Asm, Join, Edit, Selftest, Help, Version, Show, Parts, Bound}
+use Rattle.command_line.specs.Words.{Measure, Chart}
 use Rattle.command_line.specs.Forms.{WordsOf}
-use Rattle.jobs.specs.Stages.{HoldsSong, AllPass, input_limit, script_limit}
+use Rattle.jobs.specs.Stages.{HoldsSong, HoldsPsid, AllPass, input_limit, script_limit}
 use Rattle.jobs.specs.Jobs.{stages}
 use Rattle.jobs.specs.Answers.{IsOrdinary, IsPrinted, IsBeforeWriting, IsPackedPsid, RunsPacked, AssemblesListing}
-use Rattle.jobs.specs.Answers.{AsksToMake, AsksToJoin}
+use Rattle.jobs.specs.Answers.{AsksToMake, AsksToJoin, AsksToMeasure, GoOnAsTold, TellsForEver, RunsRepeating}
+use Rattle.jobs.specs.Everywhere.{song_calls, PlaysAnywhere, TakesAsTold}
 
 -- 0 and each other status but 4, 9, 10 and 14 is ordinary, all lines are printed with each but 10 and 14, and nothing is
 -- written with each but 0, 9, 10 and 14
@@ -105,3 +120,41 @@ PackedFilesAreRun =
     (subtune frames : ℕ) → WordsOf words (Run input subtune frames) → file_of files input ≡ Some file →
     IsPackedPsid song options file → 1 ≤ subtune → subtune ≤ length (playable_subtunes song) →
     RunsPacked words files song options subtune frames
+
+-- it is measured, and each subtune that it has is drawn: all stages pass
+abbrev pub PackedFilesAreMeasured : Type 0
+PackedFilesAreMeasured =
+    (files : Files) (song : Song) (options : Options) (input output file : List ℕ) (subtune calls : ℕ) →
+    file_of files input ≡ Some file → IsPackedPsid song options file → 1 ≤ subtune →
+    subtune ≤ length (playable_subtunes song) →
+    AllPass files (stages (Measure input calls)) × AllPass files (stages (Chart input output subtune calls))
+
+-- What the clauses on measured files ask for, and no more: words and a file, for what is printed; words, a file and what is
+-- measured of it, for a run that never stops; and for a play of an image, any machine that agrees with one of the image's own
+-- on its bytes.
+pub record ToldForEverIsAsked : Type 0 where
+  pub measuring : (words : List (List ℕ)) (files : Files) (input : List ℕ) (calls : ℕ) (psid : Psid) →
+      WordsOf words (Measure input calls) → HoldsPsid files input psid → AsksToMeasure words files psid calls
+  pub running : (words : List (List ℕ)) (files : Files) (input : List ℕ) (subtune frames calls : ℕ) (psid : Psid)
+      (measured : Measured) (repeat : Repeat) → WordsOf words (Run input subtune frames) → HoldsPsid files input psid →
+      IsMeasured psid (subtune - 1) calls measured → measured.repeat ≡ Some repeat → RunsRepeating words files
+  pub anywhere : (image : List ℕ) (address : ℕ) (song : Song) (k n number steps : ℕ) (before machine after : Machine) →
+      LeadTo image address song (song_calls k n) before → IsMachine machine → AgreesOn image address before machine →
+      number < 256 → Called machine (address + 3) number steps after →
+      PlaysAnywhere image address song k n machine number steps after
+
+-- What they say: each subtune that repeats, wherever it stands among the others, goes on as it is told; its state comes again;
+-- and no play of the image takes more clock cycles than the one that is told as the dearest.
+pub record ToldForEverSays : Type 0 where
+  pub each : (psid : Psid) (subtune : ℕ) (earlier later : List Measured) (measured : Measured) (repeat : Repeat) →
+      GoOnAsTold psid subtune (earlier ++ measured ∷ later) → measured.repeat ≡ Some repeat →
+      GoesOnAsTold psid (subtune + length earlier) measured repeat
+  pub printed : (psid : Psid) (calls : ℕ) (before after : Option (List ℕ)) →
+      (tells : TellsForEver psid calls before after) → GoOnAsTold psid 0 tells.told
+  pub states : (psid : Psid) (song n : ℕ) (measured : Measured) (repeat : Repeat) (machine : Machine) →
+      (goes : GoesOnAsTold psid song measured repeat) → repeat.from ≤ n →
+      Lead (loaded psid).play n goes.first machine ↔ Lead (loaded psid).play (n + repeat.length) goes.first machine
+  pub anywhere : (image : List ℕ) (address : ℕ) (song : Song) (k n number steps : ℕ) (psid : Psid) (measured : Measured)
+      (repeat : Repeat) (machine after : Machine) → TakesAsTold image address song k psid measured →
+      measured.repeat ≡ Some repeat → PlaysAnywhere image address song k n machine number steps after →
+      call_cycles machine (address + 3) number steps ≤ measured.dearest.cycles

@@ -10,7 +10,8 @@ ghost use Rattle.jobs.specs.Laws.{ChartsHaveOneOutcome};
 ghost use Rattle.jobs.specs.Everywhere.{PackedSongsTakeAsTold};
 ghost use Rattle.jobs.specs.MetPremises.{StatusesAreOrdinary, FittingSongsArePacked, PackedFilesAreRun};
 ghost use Rattle.jobs.specs.MetPremises.{ListingsAreAssembled, ScriptsAreDone, JoinableSongsAreJoined};
-ghost use Rattle.jobs.specs.MetPremises.{SomeJobsHaveNoStage, PlayableSongsAreBounded};
+ghost use Rattle.jobs.specs.MetPremises.{SomeJobsHaveNoStage, PlayableSongsAreBounded, PackedFilesAreMeasured};
+ghost use Rattle.jobs.specs.MetPremises.{ToldForEverIsAsked, ToldForEverSays};
 ghost use Rattle.jobs.specs.WorkedLines.{LinesAreWorked, CostLinesAreWorked, FaultsAreWorked, ListingFaultsAreWorked};
 ghost use Rattle.jobs.specs.WorkedLines.{JoinFaultsAreWorked, RefusalsAreWorked, StatusesAreWorked, LimitsAreWorked};
 ghost use Rattle.jobs.specs.WorkedLines.{HeadersAreWorked, FlagsAreWorked, LargeImagesAreNotPacked};
@@ -67,6 +68,13 @@ pub fn packed_songs_take_as_told()
     ensures { PackedSongsTakeAsTold }
 {}
 
+/// What is told for ever asks for no more than words, a file and what is measured of it; and each subtune that repeats is
+/// told so, with a state that comes again, and a play that none passes, in the file and on any machine.
+pub fn told_for_ever()
+    ensures asked { ToldForEverIsAsked }
+    ensures says { ToldForEverSays }
+{}
+
 /// What `disasm` writes is what `asm` gives the image back of; what `show` writes of a song is what `edit` makes the song
 /// of, from the empty one; and a joined file holds the joined song, which plays what both songs play.
 pub fn written_files_hold_what_was_read()
@@ -84,7 +92,7 @@ pub fn told_bounds_are_kept()
 {}
 
 /// What the clauses on statuses, packing and running ask for: which statuses are ordinary, that a small song is asked for
-/// no more than fits it, that a packed file is never too long, that the listing of an image is one that is
+/// no more than fits it, that a packed file is never too long and is measured, that the listing of an image is one that is
 /// assembled, that a song's script is done on the empty song, that two songs that can be joined are, and which jobs have no
 /// stage.
 pub fn premises_are_met()
@@ -92,6 +100,7 @@ pub fn premises_are_met()
     ensures packed { FittingSongsArePacked }
     ensures bounded { PlayableSongsAreBounded }
     ensures run { PackedFilesAreRun }
+    ensures measured { PackedFilesAreMeasured }
     ensures listing { ListingsAreAssembled }
     ensures script { ScriptsAreDone }
     ensures joined { JoinableSongsAreJoined }
